@@ -8,7 +8,7 @@ shared      names that definitions of two or more crates have
 unlike      those of them whose definitions say different things
 twins       definitions of two crates with the same text, under whatever name
 rests       definitions that the theorem rests on
-inner       those of them in specs/inner, which no reader has to believe
+inner       those of them in specs/inner or specs/laws, which no reader has to believe
 half        comments of definitions that begin as half a sentence
 participles functions whose name is a bare participle
 verbs       relations named by a bare verb: a record or a function to types whose name is a verb in the past, or one of a few in the third person that
@@ -88,8 +88,8 @@ def rests():
 
 
 def inner():
-    """Those in specs/inner."""
-    return [place(it) for it, _ in reached() if it.kind in DEFINITIONS and "inner" in it.path.parts]
+    """Those in specs/inner and specs/laws."""
+    return [place(it) for it, _ in reached() if it.kind in DEFINITIONS and {"inner", "laws"} & set(it.path.parts)]
 
 
 def half():
@@ -162,7 +162,7 @@ def unused():
 
 
 ROWS = (("names that definitions of two or more crates have", shared), ("those that mean different things", unlike), ("twins", twins),
-        ("definitions that the theorem rests on", rests), ("those of them in specs/inner", inner),
+        ("definitions that the theorem rests on", rests), ("those of them in specs/inner or specs/laws", inner),
         ("comments that begin as half a sentence", half), ("names that are bare participles", participles),
         ("relations named by a bare verb", verbs), (f"pairs of records with {EQUAL_FIELDS} equal fields or more", twice),
         (f"lines of specs/ past {WIDE} columns", wide), ("crates named in crates.txt and not used", unused), ("lines of imports in specs/", imports))
@@ -170,10 +170,14 @@ ROWS = (("names that definitions of two or more crates have", shared), ("those t
 
 def table():
     """The table."""
-    made, specs, source = numbers(), len(lines_in("specs", ".antt")), len(lines_in("src", ".rt"))
+    made, source = numbers(), len(lines_in("src", ".rt"))
+    all_specs = files_below("specs", ".antt")
+    specs, laws = (sum(len(path.read_text(encoding="utf-8").splitlines()) for path in paths)
+                   for paths in (all_specs, [path for path in all_specs if "laws" in path.parts]))
     rows = [(f"{what} (`{find.__name__}`)", f"{len(list(find())):,}") for what, find in ROWS]
     rows.insert(4, ("their lines, and the steps from `run` to the last", f"{made['lines']:,}, {made['deep']}"))
-    rows += [("lines of specs/, and of src/", f"{specs:,}, {source:,}"), ("specs/ to src/", f"{specs / source:.2f}")]
+    rows += [("lines of specs/ without laws/, of laws/, and of src/", f"{specs - laws:,}, {laws:,}, {source:,}"),
+             ("specs/ to src/, without laws/ and with them", f"{(specs - laws) / source:.2f}, {specs / source:.2f}")]
     return "| | |\n|---|---|\n" + "\n".join(f"| {what} | {count} |" for what, count in rows)
 
 

@@ -27,9 +27,9 @@ def crates():
 
 
 def files(crate):
-    """The files of a crate's definitions, by name; what lies in specs/inner is left out."""
+    """The files of a crate's definitions, by name; what lies in specs/inner and specs/laws is left out."""
     specs = CRATES / crate / "specs"
-    return sorted(path for path in specs.rglob("*.antt") if "inner" not in path.relative_to(specs).with_suffix("").parts)
+    return sorted(path for path in specs.rglob("*.antt") if not {"inner", "laws"} & set(path.relative_to(specs).with_suffix("").parts))
 
 
 @cache

@@ -1,7 +1,7 @@
 -- What taking the blocks of a range out of the runs leaves.
 use Rattle.std.proofs.Common.{◌≡◌, ℕ, ◌+◌, ◌-◌, ◌<◌, ◌≤◌, List, ◌∷◌, length, inl, inr, refl, arith}
 use Rattle.std.proofs.lemmas.Bool.{cases_lt}
-use Rattle.rpm_blocks.proofs.Vocabulary.{AreApart, end_of, Has, HaveSameBlocks, IsFree, IsGap, IsPlace, IsRange, IsUnused, Range, range, range_at}
+use Rattle.rpm_blocks.proofs.Vocabulary.{AreApart, end_of_range, Has, HaveSameBlocks, IsFree, IsGap, IsPlace, IsRange, IsUnused, Range, range, range_at}
 use Rattle.rpm_blocks.proofs.Same.{same_sym, same_trans, same_cons, same_swap, same_joined, unused_cons}
 
 -- a range that has a place of its own meets no other
@@ -12,7 +12,7 @@ free_of_gap low high l r at gap b has i lt meets = elim (cases_lt i at) [
 ]
 
 -- and each part of it goes in that place too
-pub gap_within : (low high : ℕ) (l : List Range) (x r : Range) (at : ℕ) → IsGap low high l x at → x.start ≤ r.start → end_of r ≤ end_of x
+pub gap_within : (low high : ℕ) (l : List Range) (x r : Range) (at : ℕ) → IsGap low high l x at → x.start ≤ r.start → end_of_range r ≤ end_of_range x
     → IsGap low high l r at
 gap_within low high l x r at gap starts ends = record {
   in_range = gap.in_range;
@@ -37,30 +37,30 @@ module _ (l : List Range) (apart : AreApart 1 l) (r : Range) (is_range : IsRange
   pub run_in_range : at - 1 < length l
   run_in_range = omega (arith, begins, place.in_range)
 
-  unused_behind : (b : ℕ) → end_of run ≤ b → ((k : ℕ) → at ≤ k → k < length l → b < (range_at l k).start) → IsUnused l b
+  unused_behind : (b : ℕ) → end_of_range run ≤ b → ((k : ℕ) → at ≤ k → k < length l → b < (range_at l k).start) → IsUnused l b
   unused_behind b behind before k lt has = elim (cases_lt k at) [
     | inr more ↦ omega (arith, before k more lt, has.from)
     | inl less ↦ elim (cases_lt k (at - 1)) [
       | inl earlier ↦ omega (arith, apart.apart k (at - 1) earlier run_in_range, has.below)
-      | inr later ↦ let here : k ≡ at - 1 = omega arith in let ends = has.below in let same : end_of (range_at l k) ≡ end_of run = rw here refl in
+      | inr later ↦ let here : k ≡ at - 1 = omega arith in let ends = has.below in let same : end_of_range (range_at l k) ≡ end_of_range run = rw here refl in
           omega (arith, ends)
     ]
   ]
 
   -- has the whole range, since no two runs touch
-  pub run_ends : end_of r ≤ end_of run
-  run_ends = elim (cases_lt (end_of run) (end_of r)) [
+  pub run_ends : end_of_range r ≤ end_of_range run
+  run_ends = elim (cases_lt (end_of_range run) (end_of_range r)) [
     | inr contains ↦ contains
-    | inl short ↦ elim (cases_lt r.start (end_of run)) [
-      | inl reaches ↦ absurd (used (end_of run) (record { from = omega arith; below = short }) (unused_behind (end_of run) (omega arith)
+    | inl short ↦ elim (cases_lt r.start (end_of_range run)) [
+      | inl reaches ↦ absurd (used (end_of_range run) (record { from = omega arith; below = short }) (unused_behind (end_of_range run) (omega arith)
           (λ k more lt. omega (arith, apart.apart (at - 1) k (omega (arith, begins)) lt))))
       | inr misses ↦ absurd (used r.start (record { from = omega arith; below = omega (arith, is_range.filled) })
           (unused_behind r.start misses (λ k more lt. omega (arith, place.above k more lt))))
     ]
   ]
 
-module _ (x r above below : Range) (low : below.start ≡ x.start) (touch : end_of below ≡ r.start) (rest : end_of r ≡ above.start)
-    (high : end_of above ≡ end_of x) (l m m2 m3 : List Range) (taken : HaveSameBlocks l (x ∷ m)) (first : HaveSameBlocks (above ∷ m) m2)
+module _ (x r above below : Range) (low : below.start ≡ x.start) (touch : end_of_range below ≡ r.start) (rest : end_of_range r ≡ above.start)
+    (high : end_of_range above ≡ end_of_range x) (l m m2 m3 : List Range) (taken : HaveSameBlocks l (x ∷ m)) (first : HaveSameBlocks (above ∷ m) m2)
     (second : HaveSameBlocks (below ∷ m2) m3) where
   parts : HaveSameBlocks (below ∷ r ∷ above ∷ m) (x ∷ m)
   parts =

@@ -1,6 +1,6 @@
 -- What putting a range in and taking one out leave of a rising list.
 use Rattle.std.proofs.Common.{◌≡◌, ℕ, ◌+◌, ◌-◌, ◌<◌, ◌≤◌, List, length, inl, inr, sym, subst, arith}
-use Rattle.rpm_blocks.proofs.Vocabulary.{AreApart, end_of, insert, IsFree, IsGap, IsPlace, IsRange, Range, range, range_at, remove}
+use Rattle.rpm_blocks.proofs.Vocabulary.{AreApart, end_of_range, insert, IsFree, IsGap, IsPlace, IsRange, Range, range, range_at, remove}
 use Rattle.std.proofs.lemmas.Bool.{cases_lt}
 use Rattle.std.proofs.lemmas.List.Edits.{length-insert, get_or-insert_below, get_or-insert_at, get_or-insert_above, length-remove, get_or-remove_below, get_or-remove_above}
 
@@ -35,7 +35,7 @@ module _ (gap : ℕ) (l : List Range) (apart : AreApart gap l) where
     }
 
     -- a part of what was taken out goes in its place
-    pub gap_removed : (r : Range) → (range_at l i).start ≤ r.start → end_of r ≤ end_of (range_at l i) → IsGap gap gap (remove l i) r i
+    pub gap_removed : (r : Range) → (range_at l i).start ≤ r.start → end_of_range r ≤ end_of_range (range_at l i) → IsGap gap gap (remove l i) r i
     gap_removed r from to =
         let short = length-remove l i lt in
         record {
@@ -85,7 +85,7 @@ module _ (gap : ℕ) (l : List Range) (apart : AreApart gap l) where
     }
 
     -- a range below the one that was put in goes in the same place
-    pub gap_inserted : (s : Range) → IsGap gap gap l s at → end_of s + gap ≤ r.start → IsGap gap gap (insert l at r) s at
+    pub gap_inserted : (s : Range) → IsGap gap gap l s at → end_of_range s + gap ≤ r.start → IsGap gap gap (insert l at r) s at
     gap_inserted s fits below =
         let long = length-insert l at r goes.in_range in
         record {
@@ -98,12 +98,12 @@ module _ (gap : ℕ) (l : List Range) (apart : AreApart gap l) where
 pub gap_of_place : (gap : ℕ) (l : List Range) → AreApart gap l → (r : Range) (at : ℕ) → IsRange r → IsPlace l r.start at → IsFree l r → IsGap 0 0 l r at
 gap_of_place gap l apart r at is_range place free = record {
   in_range = place.in_range;
-  below = λ i less. elim (cases_lt r.start (end_of (range_at l i))) [
+  below = λ i less. elim (cases_lt r.start (end_of_range (range_at l i))) [
     | inl meets ↦ absurd (free r.start (record { from = omega arith; below = omega (arith, is_range.filled) }) i (omega (arith, place.in_range))
         (record { from = omega (arith, place.below i less); below = meets }))
     | inr ends ↦ omega arith
   ];
-  above = λ i more in_range. elim (cases_lt (range_at l i).start (end_of r)) [
+  above = λ i more in_range. elim (cases_lt (range_at l i).start (end_of_range r)) [
     | inl meets ↦ absurd (free (range_at l i).start (record { from = place.above i more in_range; below = meets }) i in_range
         (record { from = omega arith; below = let filled = apart.ranges i in_range in omega (arith, filled.filled) }))
     | inr ends ↦ omega arith

@@ -2,18 +2,19 @@
 use Rattle.std.proofs.Common.{◌≡◌, ℕ, ◌+◌, ◌-◌, ◌<◌, ◌≤◌, max, List, length, length-drop, drop, Option, Some, None, inl, inr, sym, subst, refl, arith}
 use Rattle.std.proofs.lemmas.List.{get_or-drop}
 use Rattle.std.proofs.lemmas.Bool.{cases_lt}
-use Rattle.rpm_blocks.proofs.Vocabulary.{AreApart, block_limit, end_of, Fits, Has, HaveSameBlocks, IsLeastFit, IsPlace, IsUnused, Range, range, range_at}
+use Rattle.rpm_blocks.proofs.Vocabulary.{AreApart, block_limit, end_of_range, Fits, Has, HaveSameBlocks, IsLeastFit, IsPlace, IsUnused, Range, range, range_at}
 
 -- the walk has passed the first k runs: none of them reaches past the block, and nothing fits below it
 pub record HasPassed (l : List Range) (count from k block : ℕ) : Type 0 where
   pub in_range : k ≤ length l
   pub at_least : from ≤ block
-  pub ended : (i : ℕ) → i < k → end_of (range_at l i) ≤ block
+  pub ended : (i : ℕ) → i < k → end_of_range (range_at l i) ≤ block
   pub none : (b : ℕ) → from ≤ b → b < block → ¬ Fits l count b
 
 module _ (l : List Range) (apart : AreApart 1 l) (count from k block : ℕ) (passed : HasPassed l count from k block) where
   -- past a gap that is not wide enough
-  pub passed_more : 1 ≤ count → k < length l → (block + count ≤ (range_at l k).start → ⊥) → HasPassed l count from (k + 1) (max block (end_of (range_at l k)))
+  pub passed_more : 1 ≤ count → k < length l → (block + count ≤ (range_at l k).start → ⊥)
+      → HasPassed l count from (k + 1) (max block (end_of_range (range_at l k)))
   passed_more some lt narrow =
       let here = apart.ranges k lt in
       record {
@@ -21,7 +22,7 @@ module _ (l : List Range) (apart : AreApart 1 l) (count from k block : ℕ) (pas
         at_least = omega (arith, passed.at_least);
         ended = λ i less. elim (cases_lt i k) [
           | inl before ↦ omega (arith, passed.ended i before)
-          | inr same ↦ let is : i ≡ k = omega arith in let ends : end_of (range_at l i) ≡ end_of (range_at l k) = rw is refl in omega arith
+          | inr same ↦ let is : i ≡ k = omega arith in let ends : end_of_range (range_at l i) ≡ end_of_range (range_at l k) = rw is refl in omega arith
         ];
         none = λ b more less fits. elim (cases_lt b block) [
           | inl before ↦ passed.none b more before fits
@@ -52,7 +53,7 @@ least_same l m count from there back (Some place) (least, fits, none) = (
 )
 
 module _ (l m : List Range) (same : HaveSameBlocks l m) (apart : AreApart 1 m) (count from at : ℕ) (place : IsPlace m from at) where
-  skipped : (i : ℕ) → i < at - 1 → end_of (range_at m i) ≤ from
+  skipped : (i : ℕ) → i < at - 1 → end_of_range (range_at m i) ≤ from
   skipped i less = omega (arith, apart.apart i (at - 1) less (omega (arith, place.in_range)), place.below (at - 1) (omega arith))
 
   -- the runs before the last that begins below `from` end below it, so the search may leave them out

@@ -1,6 +1,6 @@
 -- What a search finds among rising ranges, and what joining and cutting leave of runs.
 use Rattle.std.proofs.Common.{◌≡◌, ℕ, zero, suc, ◌+◌, ◌<◌, ◌≤◌, List, [], ◌∷◌, length, ap, refl, sym, ◌∙◌, inl, inr, true, false, ltb, slice_index_or, set, arith}
-use Rattle.rpm_blocks.proofs.Vocabulary.{AreApart, block_limit, end_of, HaveSameBlocks, insert, IsGap, IsNonDecreasingBy, IsPartitionPoint, IsPlace, IsRange}
+use Rattle.rpm_blocks.proofs.Vocabulary.{AreApart, block_limit, end_of_range, HaveSameBlocks, insert, IsGap, IsNonDecreasingBy, IsPartitionPoint, IsPlace, IsRange}
 use Rattle.rpm_blocks.proofs.Vocabulary.{Range, range, range_at, remove}
 use Rattle.std.proofs.lemmas.Bool.{cases_lt}
 use Rattle.std.proofs.lemmas.Bool.Decides.{nat_tests}
@@ -30,7 +30,7 @@ read_at l i x lt is = grind (arith, get_or_default l i x (range 0 0) lt)
 
 module _ (l : List Range) (apart : AreApart 1 l) (i : ℕ) (lt : i < length l) (x : Range) (is : x ≡ range_at l i) (r whole : Range) where
   -- the run below that touches a range is one with it
-  pub joined_below : x.start ≡ whole.start → end_of x ≡ r.start → end_of r ≡ end_of whole → HaveSameBlocks (r ∷ l) (whole ∷ remove l i)
+  pub joined_below : x.start ≡ whole.start → end_of_range x ≡ r.start → end_of_range r ≡ end_of_range whole → HaveSameBlocks (r ∷ l) (whole ∷ remove l i)
   joined_below starts touch ends =
       let m = remove l i in
       let taken = same_cons r l (x ∷ m) (same_remove l i x lt is) in
@@ -38,14 +38,14 @@ module _ (l : List Range) (apart : AreApart 1 l) (i : ℕ) (lt : i < length l) (
       (same_joined x r whole m starts touch ends))
 
   -- and so is the run above
-  pub joined_above : r.start ≡ whole.start → end_of r ≡ x.start → end_of x ≡ end_of whole → HaveSameBlocks (r ∷ l) (whole ∷ remove l i)
+  pub joined_above : r.start ≡ whole.start → end_of_range r ≡ x.start → end_of_range x ≡ end_of_range whole → HaveSameBlocks (r ∷ l) (whole ∷ remove l i)
   joined_above starts touch ends =
       let m = remove l i in
       let taken = same_cons r l (x ∷ m) (same_remove l i x lt is) in
       same_trans (r ∷ l) (r ∷ x ∷ m) (whole ∷ m) taken (same_joined r x whole m starts touch ends)
 
   -- one range with the run below it goes in the place of that run
-  pub gap_joined_below : IsGap 0 0 l r (i + 1) → x.start ≡ whole.start → end_of r ≡ end_of whole → IsGap 1 0 (remove l i) whole i
+  pub gap_joined_below : IsGap 0 0 l r (i + 1) → x.start ≡ whole.start → end_of_range r ≡ end_of_range whole → IsGap 1 0 (remove l i) whole i
   gap_joined_below gap starts ends =
       let short = length-remove l i lt in
       let begins : (range_at l i).start ≡ whole.start = rw (← is) starts in
@@ -63,7 +63,7 @@ set_is_insert (x ∷ l) (suc i) w lt = ap (λ (m : List Range). x ∷ m) (set_is
 
 -- the last run goes on to the end of a range that touches it
 module _ (l : List Range) (apart : AreApart 1 l) (i : ℕ) (last : i + 1 ≡ length l) (x : Range) (is : x ≡ range_at l i) (r whole : Range)
-    (starts : x.start ≡ whole.start) (touch : end_of x ≡ r.start) (ends : end_of r ≡ end_of whole) (some : 1 ≤ r.count) where
+    (starts : x.start ≡ whole.start) (touch : end_of_range x ≡ r.start) (ends : end_of_range r ≡ end_of_range whole) (some : 1 ≤ r.count) where
   lt : i < length l
   lt = omega arith
 
@@ -82,7 +82,7 @@ module _ (l : List Range) (apart : AreApart 1 l) (i : ℕ) (last : i + 1 ≡ len
       let short = length-remove l i lt in
       record { in_range = found.in_range; below = found.below; above = λ k more inside. absurd (omega arith) }
 
-  pub extended_apart : end_of r ≤ block_limit → AreApart 1 (set l i whole)
+  pub extended_apart : end_of_range r ≤ block_limit → AreApart 1 (set l i whole)
   extended_apart bounded =
       let is_range : IsRange whole = record { filled = omega (arith, starts, touch, ends); bounded = omega (arith, ends) } in
       rw (set_is_insert l i whole lt) (apart_insert 1 (remove l i) (apart_remove 1 l apart i lt) i whole gap is_range)

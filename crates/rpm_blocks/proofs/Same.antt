@@ -1,13 +1,13 @@
 -- Lists of ranges that have the same blocks.
 use Rattle.std.proofs.Common.{◌≡◌, ℕ, zero, suc, ◌<◌, ◌⊎◌, List, [], ◌∷◌, length, inl, inr, sym, subst, arith}
-use Rattle.rpm_blocks.proofs.Vocabulary.{end_of, Has, HaveSameBlocks, insert, IsFree, IsUnused, Range, range_at, remove}
+use Rattle.rpm_blocks.proofs.Vocabulary.{end_of_range, Has, HaveSameBlocks, insert, IsFree, IsUnused, Range, range_at, remove}
 use Rattle.std.proofs.lemmas.Bool.{cases_lt}
 
 -- a block lies in a range, or it does not
 pub has_or_not : (r : Range) (b : ℕ) → Has r b ⊎ (¬ Has r b)
 has_or_not r b = elim (cases_lt b r.start) [
   | inl below ↦ inr (λ h. omega (arith, h.from))
-  | inr from ↦ elim (cases_lt b (end_of r)) [
+  | inr from ↦ elim (cases_lt b (end_of_range r)) [
     | inl inside ↦ inl (record { from = from; below = inside })
     | inr above ↦ inr (λ h. omega (arith, h.below))
   ]
@@ -48,7 +48,7 @@ pub same_swap : (r s : Range) (l : List Range) → HaveSameBlocks (r ∷ s ∷ l
 same_swap r s l = record { there = swapped r s l; back = swapped s r l }
 
 -- two ranges that touch have the blocks of one
-pub same_joined : (low high whole : Range) (l : List Range) → low.start ≡ whole.start → end_of low ≡ high.start → end_of high ≡ end_of whole
+pub same_joined : (low high whole : Range) (l : List Range) → low.start ≡ whole.start → end_of_range low ≡ high.start → end_of_range high ≡ end_of_range whole
     → HaveSameBlocks (low ∷ high ∷ l) (whole ∷ l)
 same_joined low high whole l starts touch ends = record {
   there = λ b h.
@@ -56,7 +56,7 @@ same_joined low high whole l starts touch ends = record {
       let not_low : ¬ Has low b = unused_head low (high ∷ l) b h in
       let not_high : ¬ Has high b = unused_head high l b tail in
       unused_cons whole l b
-      (λ has. elim (cases_lt b (end_of low)) [
+      (λ has. elim (cases_lt b (end_of_range low)) [
         | inl below ↦ not_low (record { from = omega (arith, has.from); below = below })
         | inr above ↦ not_high (record { from = omega arith; below = omega (arith, has.below) })
       ])

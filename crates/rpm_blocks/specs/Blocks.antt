@@ -1,5 +1,6 @@
 -- Ranges of blocks that are used, and the least block at which one more fits.
-use Rattle.std.specs.Prelude.{ℕ, ◌+◌, ◌<◌, ◌≤◌, List, [], ◌∷◌, length, filter, Option, Some, None, if◌then◌else◌, nat_lt, slice_index_or, ◌==◌, not}
+use Rattle.std.specs.Prelude.{ℕ, ◌+◌, ◌<◌, ◌≤◌, List, [], ◌∷◌, length, filter, Option, Some, None, if◌then◌else◌}
+use Rattle.std.specs.Prelude.{nat_lt, slice_index_or, ◌==◌, not}
 use Rattle.rpm_blocks.specs.declared.Range.{Range}
 
 -- no range ends past this block: a file has at most 4 GiB, in blocks of 16 bytes
@@ -16,13 +17,13 @@ abbrev pub range : ℕ → ℕ → Range
 range start count = record { start = start; count = count }
 
 -- the block after the last of a range
-abbrev pub end_of : Range → ℕ
-end_of r = r.start + r.count
+abbrev pub end_of_range : Range → ℕ
+end_of_range r = r.start + r.count
 
 -- a block lies in a range
 pub record Has (r : Range) (block : ℕ) : Type 0 where
   pub from : r.start ≤ block
-  pub below : block < end_of r
+  pub below : block < end_of_range r
 
 -- the range at place i
 abbrev pub range_at : List Range → ℕ → Range
@@ -39,12 +40,12 @@ IsFree l r = (block : ℕ) → Has r block → IsUnused l block
 -- a range has a block at least, and none from the limit on
 pub record IsRange (r : Range) : Type 0 where
   pub filled : 1 ≤ r.count
-  pub bounded : end_of r ≤ block_limit
+  pub bounded : end_of_range r ≤ block_limit
 
 -- the ranges rise, and each begins at least so many blocks after the end of those before it:
 -- with a gap of 0 no two share a block, and with a gap of 1 none touches the next
 pub record AreApart (gap : ℕ) (l : List Range) : Type 0 where
-  pub apart : (i j : ℕ) → i < j → j < length l → end_of (range_at l i) + gap ≤ (range_at l j).start
+  pub apart : (i j : ℕ) → i < j → j < length l → end_of_range (range_at l i) + gap ≤ (range_at l j).start
   pub ranges : (i : ℕ) → i < length l → IsRange (range_at l i)
 
 -- a range of so many blocks from this block on is free, and ends by the limit

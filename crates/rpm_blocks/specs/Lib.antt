@@ -1,3 +1,3 @@
 pub mod Blocks
-pub mod Laws
 pub mod inner
+pub mod laws

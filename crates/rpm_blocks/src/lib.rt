@@ -8,7 +8,7 @@
 #![tactic(auto)]
 
 ghost use Rattle.std.specs.Prelude.{◌≡◌, ◌+◌, ◌^◌, ◌<◌, ◌≤◌, [], OnOk, OnErr, IfOk, IsOk, SomeIndex};
-ghost use Rattle.rpm_blocks.specs.Blocks.{Blocks, range, range_at, end_of, block_limit, IsFree, AreApart, IsLeastFit, with_range, without};
+ghost use Rattle.rpm_blocks.specs.Blocks.{Blocks, range, range_at, end_of_range, block_limit, IsFree, AreApart, IsLeastFit, with_range, without};
 
 mod places;
 mod runs;
@@ -28,8 +28,8 @@ pub struct Range {
 impl Range {
     // The block after the last.
     fn end(self) -> u32
-        requires { end_of self < 2 ^ 32 }
-        ensures { result ≡ end_of self }
+        requires { end_of_range self < 2 ^ 32 }
+        ensures { result ≡ end_of_range self }
     {
         self.start + self.count
     }
@@ -51,11 +51,11 @@ impl Model for Used {
 
     ghost Value = { Blocks };
 
-    ghost use Rattle.rpm_blocks.specs.inner.Sound.{IsSound};
+    ghost use Rattle.rpm_blocks.specs.inner.Sound.{IsUsedSound};
 
     ghost view = { λ u. record { ranges = u.ranges.items; spare = u.spare } };
 
-    ghost invariant = { IsSound };
+    ghost invariant = { IsUsedSound };
 }
 
 impl Used {

@@ -2,7 +2,7 @@
 
 ghost use Rattle.std.specs.Prelude.{◌≡◌, ℕ, ◌+◌, ◌<◌, ◌≤◌, ◌↔◌, ◌∷◌, vec_len, vec_capacity, IsTrue, false};
 ghost use Rattle.rpm_blocks.specs.declared.Range.{Range};
-ghost use Rattle.rpm_blocks.specs.Blocks.{end_of, block_limit, Has, IsUnused, IsFree, IsRange, AreApart, IsLeastFit};
+ghost use Rattle.rpm_blocks.specs.Blocks.{end_of_range, block_limit, Has, IsUnused, IsFree, IsRange, AreApart, IsLeastFit};
 ghost use Rattle.rpm_blocks.specs.inner.Places.{IsGap, HaveSameBlocks};
 
 use super::Range;
@@ -146,7 +146,7 @@ fn take_run(runs: &mut Vec<Range>, range: Range) -> (usize, Range)
     ensures apart { AreApart 1 runs.new.items }
     ensures range { IsRange result.1 }
     ensures starts { result.1.start ≤ range.start }
-    ensures ends { end_of range ≤ end_of result.1 }
+    ensures ends { end_of_range range ≤ end_of_range result.1 }
     ensures gap { IsGap 1 1 runs.new.items result.1 result.0 }
     ensures same { HaveSameBlocks runs.old.items (result.1 ∷ runs.new.items) }
     ensures len { vec_len runs.new + 1 ≡ vec_len runs.old }
@@ -160,12 +160,12 @@ fn take_run(runs: &mut Vec<Range>, range: Range) -> (usize, Range)
 // Puts a range in at its place, if it has a block.
 fn put_part(runs: &mut Vec<Range>, at: usize, part: Range)
     requires apart { AreApart 1 runs.old.items }
-    requires bounded { end_of part ≤ block_limit }
+    requires bounded { end_of_range part ≤ block_limit }
     requires gap { IsGap 1 1 runs.old.items part at }
     requires room { vec_len runs.old < vec_capacity runs.old }
     ensures apart { AreApart 1 runs.new.items }
     ensures same { HaveSameBlocks (part ∷ runs.old.items) runs.new.items }
-    ensures gap { (r : Range) → IsGap 1 1 runs.old.items r at → end_of r + 1 ≤ part.start → IsGap 1 1 runs.new.items r at }
+    ensures gap { (r : Range) → IsGap 1 1 runs.old.items r at → end_of_range r + 1 ≤ part.start → IsGap 1 1 runs.new.items r at }
     ensures len { vec_len runs.new ≤ vec_len runs.old + 1 }
     ensures capacity { vec_capacity runs.new ≡ vec_capacity runs.old }
 {

@@ -1,10 +1,10 @@
 -- The packages that rebuilding drops, by rising number.
 use Rattle.std.proofs.Common.{◌≡◌, ℕ, ◌<◌, ◌≤◌, Ok, true, false, Option, Some, None, is_some, refl, sym, ap, ◌∙◌, arith, nat_eq, Err, Result}
 use Rattle.rpm_outside.specs.declared.disk.Disk as disk
-use Rattle.rpm_change.proofs.Vocabulary.{above, apply_all, Bad, Course, Database, drop_each, dropped, eq_by_cmp, Good, Halt, HasCauseAt, idle}
-use Rattle.rpm_change.proofs.Vocabulary.{IsGathering, IsNext, IsOwing, joined, LeftBy, Looks, looks_run, nat_cmp, next_above, none_is, none_made}
-use Rattle.rpm_change.proofs.Vocabulary.{nothing_above, OwesOn, Package, Pkg, room, RowChange, runs_looks, SameLog, serving_read, State, state_in}
-use Rattle.rpm_change.proofs.Vocabulary.{Tally, uncounted, unsigned_tied, WentOwing}
+use Rattle.rpm_change.proofs.Vocabulary.{above, apply_all, Bad, Course, Database, drop_each, dropped_course, eq_by_cmp, Good, Halt, HasCauseAt, idle}
+use Rattle.rpm_change.proofs.Vocabulary.{IsGathering, IsNext, IsOwing, joined_courses, EndStateBy, OnlyReads, looks_run, nat_cmp, next_above, none_is, none_made}
+use Rattle.rpm_change.proofs.Vocabulary.{nothing_above, OwesOn, Package, Pkg, store_of, RowChange, runs_looks, SameLog, serving_read, State, state_in}
+use Rattle.rpm_change.proofs.Vocabulary.{Tally, no_tally, unsigned_tied, ProgressOwing}
 use Rattle.rpm_outside.specs.Files.{Files}
 use Rattle.std.specs.FinMap as finite
 use Rattle.std.proofs.lemmas.Cmp.{nat_cmp_total}
@@ -31,7 +31,7 @@ SameAbove n s t = (k : ℕ) → n < k → finite.get t k ≡ finite.get s k
 -- the next package of the one is that of the other
 pub drop_next : (s t : finite.FinMap nat_cmp Package) (n m : ℕ) → SameAbove n s t → IsNext (λ k. is_some (finite.get t k)) n (Some m)
     → (finite.get t m ≡ Some (package_or (finite.get t m)))
-    × (drop_each (above n (finite.entries s)) ≡ joined (dropped m (package_or (finite.get t m))) (drop_each (above m (finite.entries s))))
+    × (drop_each (above n (finite.entries s)) ≡ joined_courses (dropped_course m (package_or (finite.get t m))) (drop_each (above m (finite.entries s))))
 drop_next s t n m same next =
     let there = some_is (finite.get t m) next.1 in
     let here : finite.get s m ≡ Some (package_or (finite.get t m)) = sym (same m next.0) ∙ there in
@@ -49,7 +49,7 @@ removed_above m k map lt =
     let tied : eq_by_cmp nat_cmp k m ≡ false = unsigned_tied k m ∙ other in
     finite.get-remove nat_cmp_total map m k ∙ rw tied refl
 
-pub same_dropped : (p : Package) (n m : ℕ) (s t u : State) → SameAbove n s.packages t.packages → n < m → u ≡ apply_all (dropped m p).changes t
+pub same_dropped : (p : Package) (n m : ℕ) (s t u : State) → SameAbove n s.packages t.packages → n < m → u ≡ apply_all (dropped_course m p).changes t
     → SameAbove m s.packages u.packages
 same_dropped (Good bytes) n m s t u same lt is k over = ap (λ (v : State). finite.get v.packages k) is ∙ same k (omega arith)
 same_dropped Bad n m s t u same lt is k over =
@@ -58,7 +58,7 @@ same_dropped Bad n m s t u same lt is k over =
 -- ---- a look
 
 module _ {D : Type 0} (d : disk.Ghosts D) {most : ℕ} {old new : D} {db : Database} {owed : RowChange} (gathering : IsGathering d old db owed)
-    (looks : Looks d Pkg most old new) where
+    (looks : OnlyReads d Pkg most old new) where
   pub gathering_looked : IsGathering d new db owed
   gathering_looked =
       let runs = looks_run d looks in
@@ -82,7 +82,7 @@ module _ {D : Type 0} (d : disk.Ghosts D) {most : ℕ} {old new : D} {db : Datab
   }
 
   pub left_looked : (r : Result Tally Halt) → HasCauseAt (r ≡ Err halt.DiskFault) (d.faults old) (d.faults new)
-      → LeftBy d (IsOwing d (OwesOn d old db owed) (d.files old).idx new db owed) old new db r
+      → EndStateBy d (IsOwing d (OwesOn d old db owed) (d.files old).idx new db owed) old new db r
   left_looked (Ok tally) cause = record {
     carried = owing_looked;
     indexed = gathering.indexed;
@@ -98,15 +98,15 @@ module _ {D : Type 0} (d : disk.Ghosts D) {most : ℕ} {old new : D} {db : Datab
 
   -- nothing was done but for it
   pub looked_went : {T : Type 0} → d.faults old ≤ d.faults new → (T → IsTrue d.tells) → {E : Course → State → State → Result Tally Halt → Type 0}
-      → ((s : State) → E idle s s (Ok uncounted)) → WentOwing d T old new db db owed owed (Ok uncounted) E idle
+      → ((s : State) → E idle s s (Ok no_tally)) → ProgressOwing d T old new db db owed owed (Ok no_tally) E idle
   looked_went later tells {E = E} ends =
       let same = λ (told : IsTrue d.tells). (looks.untouched told).same in
       record {
         ended = λ told. rw (same (tells told)) (ends (state_in d old db));
         limits = λ told i rows.
-            rw (same (tells told)) (none_made i (state_in d old db) (room db) (room db) uncounted refl);
+            rw (same (tells told)) (none_made i (state_in d old db) (store_of db) (store_of db) no_tally refl);
         whole = λ told was. rw (same told) was;
         bad = λ told. tt;
         given = λ told. record { adds = sym (append-nil owed.adds) };
-        left = left_looked (Ok uncounted) (record { later = later; rose = λ is. absurd cc });
+        left = left_looked (Ok no_tally) (record { later = later; rose = λ is. absurd cc });
       }

@@ -8,7 +8,7 @@ use Rattle.rpm_db.specs.Refusals as db
 use Rattle.rpm_db.specs.declared.change_fault.ChangeFault.TheVariants as fault
 use Rattle.rpm_effects.specs.declared.tally.Halt.TheVariants as halt
 
-pub kind_of_erasing : (f : ChangeFault) → db.IsOfErasing f → IsOfErasing (halt_of f)
+pub kind_of_erasing : (f : ChangeFault) → db.IsOfStoreErasing f → IsOfErasing (halt_of f)
 kind_of_erasing fault.NoSuch kind = tt
 kind_of_erasing fault.GenerationSpent kind = tt
 kind_of_erasing fault.DiskFault kind = tt
@@ -23,7 +23,7 @@ kind_of_index fault.NoMemory kind = tt
 kind_of_index others kind = absurd kind
 
 -- the index isn't asked
-pub erasing_whole : (f : ChangeFault) → db.IsOfErasing f → WholeCause f
+pub erasing_whole : (f : ChangeFault) → db.IsOfStoreErasing f → WholeCause f
 erasing_whole (fault.BadIndex unit) kind = absurd kind
 erasing_whole others kind = tt
 

@@ -1,10 +1,10 @@
 -- A package file that is read, or refused.
 use Rattle.std.proofs.Common.{◌≡◌, ℕ, Bor, List, [], Option, Some, None, Result, Err, refl}
-use Rattle.rpm_change.proofs.Vocabulary.{FileFault, GivesInstalled, Header, left, stop_in}
+use Rattle.rpm_change.proofs.Vocabulary.{FileFault, GivesInstalled, Header, bytes_left, stop_in}
 use Rattle.rpm_file.specs.declared.fault.FileFault.TheVariants as file
 
 -- a path that was opened
-pub opened_is : (found rest : Option (List ℕ)) → rest ≡ found → (found ≡ None → ⊥) → found ≡ Some (left rest)
+pub opened_is : (found rest : Option (List ℕ)) → rest ≡ found → (found ≡ None → ⊥) → found ≡ Some (bytes_left rest)
 opened_is None rest is some = absurd (some refl)
 opened_is (Some bytes) rest is some = rw is refl
 

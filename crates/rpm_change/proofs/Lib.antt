@@ -9,3 +9,4 @@ pub mod Rebuilt
 pub mod Stops
 pub mod Turned
 pub mod Vocabulary
+pub mod Ready

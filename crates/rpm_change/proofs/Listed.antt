@@ -2,12 +2,12 @@
 use Rattle.std.proofs.Common.{◌≡◌, ℕ, zero, suc, ◌+◌, ◌<◌, ◌≤◌, Bool, true, false, List, [], ◌∷◌, length, take, drop, Option, Some, None, Result, Ok, Err, refl, sym, ap, ◌∙◌, inl, inr, arith, nat_lt, length-drop}
 use Rattle.std.proofs.lemmas.Bool.{cases_Bool, cases_lt}
 use Rattle.std.proofs.lemmas.Bool.Decides.{nat_tests}
-use Rattle.rpm_change.proofs.Vocabulary.{ending, Found, from_place, front_header, joined, Leaves, list_head, Listed, listed, listed_in, listed_next}
-use Rattle.rpm_change.proofs.Vocabulary.{ListFault, Short, size_in, sized, some_found, turn, with_blob}
+use Rattle.rpm_change.proofs.Vocabulary.{list_ending, BlobAndRest, from_place, front_header, joined_courses, ListEnd, list_head, HeaderList, listed_headers, listed_in, listed_next}
+use Rattle.rpm_change.proofs.Vocabulary.{ListFault, Short, size_in, found_of_size, some_found, turn, with_listed}
 
 -- ---- what follows a header is shorter
 
-shorter_sized : (bytes : List ℕ) (said : Result ℕ ListFault) (found : Found) → some_found (sized bytes said) ≡ Ok (Some found)
+shorter_sized : (bytes : List ℕ) (said : Result ℕ ListFault) (found : BlobAndRest) → some_found (found_of_size bytes said) ≡ Ok (Some found)
     → length found.rest + 8 ≤ length bytes
 shorter_sized bytes (Err fault) found is = absurd cc
 shorter_sized bytes (Ok size) found is = elim (cases_Bool (nat_lt (length bytes) (8 + size))) [
@@ -19,7 +19,7 @@ shorter_sized bytes (Ok size) found is = elim (cases_Bool (nat_lt (length bytes)
       rw rest (omega (arith, length-drop (8 + size) bytes)))
 ]
 
-shorter : (bytes : List ℕ) (found : Found) → some_found (front_header bytes) ≡ Ok (Some found) → length found.rest + 8 ≤ length bytes
+shorter : (bytes : List ℕ) (found : BlobAndRest) → some_found (front_header bytes) ≡ Ok (Some found) → length found.rest + 8 ≤ length bytes
 unfolding front_header
 shorter bytes found is = elim (cases_Bool (nat_lt (length bytes) 16)) [
   | inl cut ↦ (let none : Err Short ≡ Ok (Some found) = rw cut at is in absurd cc)
@@ -28,13 +28,13 @@ shorter bytes found is = elim (cases_Bool (nat_lt (length bytes) 16)) [
 
 -- ---- so many turns are enough
 
-next_same : (f g : List ℕ → Listed) (r : Result (Option Found) ListFault)
-    → ((found : Found) → r ≡ Ok (Some found) → f found.rest ≡ g found.rest) → listed_next f r ≡ listed_next g r
+next_same : (f g : List ℕ → HeaderList) (r : Result (Option BlobAndRest) ListFault)
+    → ((found : BlobAndRest) → r ≡ Ok (Some found) → f found.rest ≡ g found.rest) → listed_next f r ≡ listed_next g r
 next_same f g (Ok None) same = refl
-next_same f g (Ok (Some found)) same = ap (with_blob found.blob) (same found refl)
+next_same f g (Ok (Some found)) same = ap (with_listed found.blob) (same found refl)
 next_same f g (Err fault) same = refl
 
-none_in : (n : ℕ) → listed_in n [] ≡ ending None
+none_in : (n : ℕ) → listed_in n [] ≡ list_ending None
 none_in zero = refl
 none_in (suc n) = refl
 
@@ -47,34 +47,34 @@ enough (suc n) (suc m) (x ∷ xs) a b =
     (λ found is. let less = shorter (x ∷ xs) found is in enough n m found.rest (omega arith) (omega arith))
 
 -- what stands in front, and then the list after it
-pub listed_step : (bytes : List ℕ) → listed bytes ≡ listed_next listed (list_head bytes)
+pub listed_step : (bytes : List ℕ) → listed_headers bytes ≡ listed_next listed_headers (list_head bytes)
 listed_step [] = refl
 listed_step (x ∷ xs) =
-    next_same (listed_in (length xs)) listed (list_head (x ∷ xs))
+    next_same (listed_in (length xs)) listed_headers (list_head (x ∷ xs))
     (λ found is. let less = shorter (x ∷ xs) found is in enough (length xs) (length found.rest) found.rest (omega arith) (omega arith))
 
 -- ---- courses
 
-found_split : (most k : ℕ) (found : Found) (is_last past : Bool) (left : List ℕ) → nat_lt most k ≡ past → is_last ≡ past → found.rest ≡ left
-    → from_place false most k (listed_next listed (Ok (Some found)))
-    ≡ joined (turn most k (Ok (Some found))) (from_place is_last most (k + 1) (listed left))
+found_split : (most k : ℕ) (found : BlobAndRest) (is_last past : Bool) (left : List ℕ) → nat_lt most k ≡ past → is_last ≡ past → found.rest ≡ left
+    → from_place false most k (listed_next listed_headers (Ok (Some found)))
+    ≡ joined_courses (turn most k (Ok (Some found))) (from_place is_last most (k + 1) (listed_headers left))
 found_split most k found is_last true left test last rest = rw (last, test) refl
 found_split most k found is_last false left test last rest = rw (last, test, ← rest) refl
 
-split_next : (most k : ℕ) (r : Result (Option Found) ListFault) (is_last : Bool) (left : List ℕ) → Leaves most k r is_last left
-    → from_place false most k (listed_next listed r) ≡ joined (turn most k r) (from_place is_last most (k + 1) (listed left))
+split_next : (most k : ℕ) (r : Result (Option BlobAndRest) ListFault) (is_last : Bool) (left : List ℕ) → ListEnd most k r is_last left
+    → from_place false most k (listed_next listed_headers r) ≡ joined_courses (turn most k r) (from_place is_last most (k + 1) (listed_headers left))
 split_next most k (Ok None) is_last left leaves = rw leaves refl
 split_next most k (Ok (Some found)) is_last left leaves = found_split most k found is_last (nat_lt most k) left refl leaves.0 leaves.1
 split_next most k (Err fault) is_last left leaves = rw leaves refl
 
 -- one turn, and what is left after it
-pub turn_splits : (most k : ℕ) (bytes : List ℕ) (is_last : Bool) (left : List ℕ) → Leaves most k (list_head bytes) is_last left
-    → from_place false most k (listed bytes) ≡ joined (turn most k (list_head bytes)) (from_place is_last most (k + 1) (listed left))
+pub turn_splits : (most k : ℕ) (bytes : List ℕ) (is_last : Bool) (left : List ℕ) → ListEnd most k (list_head bytes) is_last left
+    → from_place false most k (listed_headers bytes) ≡ joined_courses (turn most k (list_head bytes)) (from_place is_last most (k + 1) (listed_headers left))
 turn_splits most k bytes is_last left leaves =
     ap (from_place false most k) (listed_step bytes) ∙ split_next most k (list_head bytes) is_last left leaves
 
 -- whatever stands in front, something is left after it
-pub turn_ahead : (most k : ℕ) (r : Result (Option Found) ListFault) → (is_last : Bool) × ((left : List ℕ) × Leaves most k r is_last left)
+pub turn_ahead : (most k : ℕ) (r : Result (Option BlobAndRest) ListFault) → (is_last : Bool) × ((left : List ℕ) × ListEnd most k r is_last left)
 turn_ahead most k (Ok None) = (true, ([], refl))
 turn_ahead most k (Ok (Some found)) = (nat_lt most k, (found.rest, (refl, refl)))
 turn_ahead most k (Err fault) = (true, ([], refl))

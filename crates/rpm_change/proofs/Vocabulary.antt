@@ -2,53 +2,54 @@
 pub use Rattle.rpm_change.specs.Adding.{add_file, add_files, as_installed, change_at, GivesInstalled, put_file, replace}
 pub use Rattle.rpm_effects.specs.Endings.{stop_in}
 pub use Rattle.rpm_effects.specs.Progress.{halt_of}
-pub use Rattle.rpm_change.specs.Erasing.{erase, erase_one, missing}
-pub use Rattle.rpm_change.specs.Importing.{ending, import_list, import_listed, imported, Listed, listed, listed_in, listed_next, once, place_fails, with_blob}
+pub use Rattle.rpm_change.specs.Erasing.{erase, erase_one, missing_course}
+pub use Rattle.rpm_change.specs.Importing.{list_ending, import_list, import_listed, imported_header, HeaderList, listed_headers, listed_in, listed_next, once, place_fails, with_listed}
 pub use Rattle.rpm_change.specs.Limits.{is_limit, LimitsTurn}
-pub use Rattle.rpm_change.specs.Rebuilding.{drop_each, dropped, dropped_line, rebuild}
-pub use Rattle.rpm_change.specs.Singles.{GathersOne, IsHeld}
-pub use Rattle.rpm_effects.specs.Steps.{apply_all, bearer, changing, Course, failing, idle, in_turn, joined, ToErr, whole}
+pub use Rattle.rpm_change.specs.Rebuilding.{drop_each, dropped_course, dropped_line, rebuild}
+pub use Rattle.rpm_change.specs.Singles.{GathersOne, HasTarget}
+pub use Rattle.rpm_effects.specs.Steps.{apply_all, bearer, course_of_change, Course, course_of_failure, idle, in_turn, joined_courses, ToErr, whole_step}
 pub use Rattle.rpm_effects.specs.Texts.{absent_line, header_text, refused_line}
-pub use Rattle.rpm_change.specs.Turns.{from_place, Leaves, StopIs, turn, turn_found}
-pub use Rattle.rpm_change.specs.Went.{CarriedOn, IsOwing, LeftBy, Went, WentOwing}
+pub use Rattle.rpm_change.specs.Turns.{from_place, ListEnd, HaltOfList, turn, turn_found}
+pub use Rattle.rpm_change.specs.Progress.{IsChangeable, IsOwing, EndStateBy, ProgressInBoth, ProgressOwing}
 pub use Rattle.rpm_effects.specs.Shown.{EndedOnErr, EndedOnOut}
 pub use Rattle.rpm_effects.specs.declared.tally.Halt.{Halt}
 pub use Rattle.rpm_effects.specs.declared.tally.Tally.{Tally}
-pub use Rattle.rpm_effects.specs.inner.Courses.{refused_quietly, stop_by}
-pub use Rattle.rpm_effects.specs.inner.Reaching.{through_none}
-pub use Rattle.rpm_change.specs.inner.Going.{halted_went, line_went, none_went, reading_went, stopped_went, went_as, went_behind}
-pub use Rattle.rpm_change.specs.inner.Parts.{Going, going_end, going_more, going_start, going_stop}
-pub use Rattle.rpm_change.specs.inner.Handing.{err_is}
-pub use Rattle.rpm_effects.specs.inner.Joins.{err_joins, err_none, err_refused, err_stopped, hand_then, out_gone, out_joins, out_none, out_refused}
-pub use Rattle.rpm_effects.specs.inner.Joins.{out_stopped, took, uncounted}
-pub use Rattle.rpm_change.specs.inner.Leaving.{halted_by, left_after, none_by, remade_log, remade_then, then_by, whole_halt}
-pub use Rattle.rpm_change.specs.inner.LimitLaws.{limits_counted, makes_small}
-pub use Rattle.rpm_change.specs.inner.ReachLaws.{idx_more, reached_anew}
-pub use Rattle.rpm_change.specs.inner.Reading.{looks_run, serving_read}
-pub use Rattle.rpm_change.specs.inner.Ready.{ready_line}
-pub use Rattle.rpm_change.specs.inner.Single.{add_fault, erase_fault, fault_kind, fault_spent, FaultIs, HasNumber, none_made, one_made, one_refused}
-pub use Rattle.rpm_change.specs.inner.Single.{other_stop, put_fault}
-pub use Rattle.rpm_change.specs.inner.Telling.{told_all, told_none, told_part}
-pub use Rattle.rpm_db.specs.Above.{next_above, none_is, nothing_above}
+pub use Rattle.rpm_effects.specs.laws.Courses.{refused_quietly, stop_by}
+pub use Rattle.rpm_effects.specs.laws.Reaching.{through_none}
+pub use Rattle.rpm_change.specs.laws.Going.{halted_went, line_went, none_went, reading_went, stopped_went, went_as, went_behind}
+pub use Rattle.rpm_change.specs.laws.Parts.{Going, going_end, going_more, going_start, going_stop}
+pub use Rattle.rpm_change.specs.laws.Handing.{err_is}
+pub use Rattle.rpm_effects.specs.laws.Joins.{err_joins, err_none, err_refused, err_stopped, hand_then, out_gone, out_joins, out_none, out_refused}
+pub use Rattle.rpm_effects.specs.laws.Joins.{out_stopped, took, no_tally}
+pub use Rattle.rpm_change.specs.laws.Leaving.{halted_by, left_after, none_by, remade_log, remade_then, then_by, whole_halt}
+pub use Rattle.rpm_change.specs.laws.LimitLaws.{limits_counted, makes_small}
+pub use Rattle.rpm_change.specs.laws.ReachLaws.{idx_more, reached_anew}
+pub use Rattle.rpm_change.specs.laws.Reading.{looks_run, serving_read}
+pub use Rattle.rpm_change.proofs.Ready.{ready_line}
+pub use Rattle.rpm_change.specs.laws.Single.{add_fault, erase_fault, fault_kind, fault_spent, SingleFaultIs, HasNumber, none_made, one_made, one_refused}
+pub use Rattle.rpm_change.specs.laws.Single.{other_stop, put_fault}
+pub use Rattle.rpm_change.specs.laws.Telling.{told_all, told_none, told_part}
+pub use Rattle.rpm_db.specs.laws.Above.{next_above, none_is, nothing_above}
 pub use Rattle.rpm_db.specs.Changed.{IsReady}
 pub use Rattle.rpm_db.specs.Changes.{Add, Change, Erase, next, Put}
-pub use Rattle.rpm_db.specs.Database.{Database, generation_of, has_failed, is_indexed, IsNext, next_number}
-pub use Rattle.rpm_db.specs.Frame.{IsIndexed, packages_in, room, Runs, state_in}
-pub use Rattle.rpm_db.specs.Gathering.{due, due_units, Gathers, IsGathering, IsLeftSuspended, IsOrdered, IsSettledUp, nothing, OwesOn, resumed}
-pub use Rattle.rpm_db.specs.Gathering.{sealed_in, suspended}
+pub use Rattle.rpm_db.specs.Database.{Database, generation_of, has_failed, is_indexed, IsNext, next_package_number}
+pub use Rattle.rpm_db.specs.Frame.{IsIndexed, packages_in, Runs, state_in}
+pub use Rattle.rpm_db.specs.Database.{store_of}
+pub use Rattle.rpm_db.specs.Gathering.{due, due_units, Gathers, IsGathering, IsLeftSuspended, IsOrdered, HasItsRows, no_row_changes, OwesOn, resumed_database}
+pub use Rattle.rpm_db.specs.Gathering.{sealed_in, suspended_database}
 pub use Rattle.rpm_db.specs.Lawful.{IsWholeIndex, Remade}
-pub use Rattle.rpm_db.specs.Reaches.{needed}
-pub use Rattle.rpm_db.specs.Refusals.{AddIs, EraseCause, FullCause, IsOfIndex, IsOfReading, WholeCause}
+pub use Rattle.rpm_db.specs.Reaches.{units_needed_after}
+pub use Rattle.rpm_db.specs.Refusals.{AddAnswer, EraseCause, FullCause, IsOfIndex, IsOfReading, WholeCause}
 pub use Rattle.rpm_db.specs.Room.{next_store, RoomCause}
-pub use Rattle.rpm_db.specs.RowLaws.{times_none}
-pub use Rattle.rpm_db.specs.Running.{runs_looks}
+pub use Rattle.rpm_db.specs.laws.RowLaws.{times_none}
+pub use Rattle.rpm_db.specs.laws.Running.{runs_looks}
 pub use Rattle.rpm_db.specs.Runs.{SameLog}
 pub use Rattle.rpm_db.specs.State.{above, Bad, Good, Package, packages, State}
-pub use Rattle.rpm_db.specs.StateLaws.{next-state}
+pub use Rattle.rpm_db.specs.laws.StateLaws.{next-state}
 pub use Rattle.rpm_db.specs.declared.change_fault.ChangeFault.{ChangeFault}
 pub use Rattle.rpm_db.specs.declared.netting.RowChange.{RowChange}
 pub use Rattle.rpm_file.specs.Answers.{IsListFault}
-pub use Rattle.rpm_file.specs.List.{Found, list_head, size_in, sized, some_found}
+pub use Rattle.rpm_file.specs.List.{BlobAndRest, list_head, size_in, found_of_size, some_found}
 unfoldable pub use Rattle.rpm_file.specs.List.{front_header}
 pub use Rattle.rpm_file.specs.Package.{package_header, read_again}
 pub use Rattle.rpm_file.specs.declared.fault.FileFault.{FileFault}
@@ -56,11 +57,11 @@ pub use Rattle.rpm_file.specs.declared.fault.ListFault.{ListFault}
 pub use Rattle.rpm_file.specs.declared.fault.ListFault.TheVariants.{Short}
 pub use Rattle.rpm_header.specs.Header.{Header, header}
 pub use Rattle.rpm_hindex.specs.Rows.{times}
-pub use Rattle.rpm_outside.specs.Browses.{left}
+pub use Rattle.rpm_outside.specs.Browses.{bytes_left}
 pub use Rattle.rpm_outside.specs.Buffered.{inner}
 pub use Rattle.rpm_outside.specs.Causes.{HasCauseAt, Rose}
 pub use Rattle.rpm_outside.specs.Files.{blank, Files}
-pub use Rattle.rpm_outside.specs.Frame.{Looks}
+pub use Rattle.rpm_outside.specs.Frame.{OnlyReads}
 pub use Rattle.rpm_outside.specs.Shelves.{bytes_at, Paths}
 pub use Rattle.rpm_outside.specs.declared.buffered.Buffered.{Buffered}
 pub use Rattle.rpm_outside.specs.declared.disk.File.TheVariants.{Pkg}

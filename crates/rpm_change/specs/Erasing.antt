@@ -5,24 +5,24 @@ use Rattle.rpm_db.specs.Changes.{Erase}
 use Rattle.rpm_db.specs.State.{State, Package}
 use Rattle.rpm_effects.specs.declared.tally.Halt.{Halt}
 use Rattle.rpm_effects.specs.declared.tally.Halt.TheVariants as halt
-use Rattle.rpm_effects.specs.Steps.{Course, ToErr, whole, changing, failing, in_turn}
+use Rattle.rpm_effects.specs.Steps.{Course, ToErr, whole_step, course_of_change, course_of_failure, in_turn}
 
 -- the line of a number that no package has
 unfoldable pub missing_line : ℕ → List ℕ
 missing_line n = codes "error: record " ++ decimal n ++ codes " could not be read\n"
 
 -- a number that no package has, as a line and nothing more
-abbrev pub missing : ℕ → ℕ → Course
-missing j n = failing (ToErr (whole j) (missing_line n))
+abbrev pub missing_course : ℕ → ℕ → Course
+missing_course j n = course_of_failure (ToErr (whole_step j) (missing_line n))
 
 -- given what the number has
-abbrev pub erased : Option Package → ℕ → ℕ → Course
-erased None j n = missing j n
-erased (Some held) j n = changing (Erase n)
+abbrev pub erasure : Option Package → ℕ → ℕ → Course
+erasure None j n = missing_course j n
+erasure (Some held) j n = course_of_change (Erase n)
 
 -- the course of one erasure
 abbrev pub erase_one : State → ℕ → ℕ → Course
-erase_one s j n = erased (finite.get s.packages n) j n
+erase_one s j n = erasure (finite.get s.packages n) j n
 
 -- each number in turn: one that is named twice is missing the second time
 abbrev pub erase : State → List ℕ → Course

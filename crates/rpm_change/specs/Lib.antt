@@ -4,10 +4,10 @@ pub mod Importing
 pub mod Installs
 pub mod Limits
 pub mod Places
+pub mod Prelude
+pub mod Progress
 pub mod Reaches
 pub mod Rebuilding
 pub mod Singles
 pub mod Turns
-pub mod Went
-pub mod inner
-pub mod Prelude
+pub mod laws

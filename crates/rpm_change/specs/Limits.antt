@@ -1,5 +1,6 @@
 -- The limits that the changes of a command meet: going through them in order, the first that is refused decides.
-use Rattle.std.specs.Prelude.{◌≡◌, ℕ, ◌+◌, ◌^◌, ◌==◌, ◌&&◌, nat_lt, if◌then◌else◌, List, [], ◌∷◌, length, Bool, true, false, Option, Some, None, is_none, unwrap_or, Result, Ok, Err, OnOk}
+use Rattle.std.specs.Prelude.{◌≡◌, ℕ, ◌+◌, ◌^◌, ◌==◌, ◌&&◌, nat_lt, if◌then◌else◌, List, [], ◌∷◌, length, Bool, true}
+use Rattle.std.specs.Prelude.{false, Option, Some, None, is_none, unwrap_or, Result, Ok, Err, OnOk}
 use Rattle.std.specs.Option.{option_or, option_and_then}
 use Rattle.rpm_hindex.specs.Sizes.{units_for}
 use Rattle.rpm_outside.specs.Files.{Files}
@@ -11,7 +12,7 @@ use Rattle.rpm_db.specs.State.{State}
 use Rattle.rpm_effects.specs.declared.tally.Tally.{Tally}
 use Rattle.rpm_effects.specs.declared.tally.Halt.{Halt}
 use Rattle.rpm_effects.specs.declared.tally.Halt.TheVariants as halt
-use Rattle.rpm_change.specs.Reaches.{Reached}
+use Rattle.rpm_change.specs.Reaches.{ChangesReach}
 
 -- ---- one change
 
@@ -21,36 +22,38 @@ is_spent s (Add bytes) = next s == 4294967295
 is_spent s others = false
 
 -- the units of an index of the packages after it
-abbrev pub needed : State → Change → ℕ
-needed s change = units_for (rows (apply change s).packages)
+abbrev pub needed_index : State → Change → ℕ
+needed_index s change = units_for (rows (apply change s).packages)
 
 -- the index that it leaves is too large
 abbrev pub is_large : State → Change → Bool
-is_large s change = nat_lt (2 ^ 28) (needed s change)
+is_large s change = nat_lt (2 ^ 28) (needed_index s change)
 
--- what refuses it in this state and this store, the first that does: numbers, generations, places, and units, where the index is asked
-abbrev pub refusal : Bool → State → Store → Change → Option Halt
-refusal indexed s value change =
+-- what refuses it in this state and this store, the first that does: numbers, generations, places, and units, where the
+-- index is asked
+abbrev pub limit_of_change : Bool → State → Store → Change → Option Halt
+limit_of_change indexed s value change =
     if is_spent s change then Some halt.NumbersSpent
     else if value.generation == 4294967295 then Some halt.GenerationSpent
     else if is_none (next_store change value) then Some halt.StoreFull
-    else if indexed && is_large s change then Some (halt.IndexFull (needed s change))
+    else if indexed && is_large s change then Some (halt.IndexFull (needed_index s change))
     else None
 
 -- ---- several changes, one after the other
 
 -- what refuses the first of them that is refused; each finds what those before it leave
-abbrev pub first_refusal : Bool → State → Store → List Change → Option Halt
-first_refusal indexed s value [] = None
-first_refusal indexed s value (change ∷ changes) =
-    option_or (refusal indexed s value change) (first_refusal indexed (apply change s) (unwrap_or (next_store change value) value) changes)
+abbrev pub limit_of_changes : Bool → State → Store → List Change → Option Halt
+limit_of_changes indexed s value [] = None
+limit_of_changes indexed s value (change ∷ changes) =
+    option_or (limit_of_change indexed s value change)
+    (limit_of_changes indexed (apply change s) (unwrap_or (next_store change value) value) changes)
 
 -- a list of changes meets this limit first; where the index is made before them, it has to hold the rows of the
 -- packages as they are
-abbrev pub first_limit : Bool → State → Store → List Change → Option Halt
-first_limit makes s value changes =
+abbrev pub limit_of_command : Bool → State → Store → List Change → Option Halt
+limit_of_command makes s value changes =
     if makes && nat_lt (2 ^ 28) (units_for (rows s.packages)) then Some (halt.IndexFull (units_for (rows s.packages)))
-    else first_refusal true s value changes
+    else limit_of_changes true s value changes
 
 -- the store after them, and None where one of them finds no place
 abbrev pub next_stores : List Change → Store → Option Store
@@ -69,14 +72,15 @@ is_limit indexed (halt.BadIndex unit) = indexed
 is_limit indexed others = false
 
 -- where it was done nothing refuses a change, and where a limit stopped it that one is the first
-abbrev pub StopsAt : Bool → Option Halt → Result Tally Halt → Type 0
-StopsAt indexed first (Ok tally) = first ≡ None
-StopsAt indexed first (Err h) = is_limit indexed h ≡ true → first ≡ Some h
+abbrev pub MeetsLimit : Bool → Option Halt → Result Tally Halt → Type 0
+MeetsLimit indexed first (Ok tally) = first ≡ None
+MeetsLimit indexed first (Err h) = is_limit indexed h ≡ true → first ≡ Some h
 
 -- a list of changes meets its first limit, or is made: the store is then that after them, up to room in memory, the
 -- generation rose by each, and no file is longer than they make it
-pub record LimitsTurn (indexed : Bool) (s : State) (old new : Store) (before after : Files) (changes : List Change) (r : Result Tally Halt) : Type 0 where
-  pub first : StopsAt indexed (first_refusal indexed s old changes) r
+pub record LimitsTurn (indexed : Bool) (s : State) (old new : Store) (before after : Files) (changes : List Change)
+    (r : Result Tally Halt) : Type 0 where
+  pub first : MeetsLimit indexed (limit_of_changes indexed s old changes) r
   pub stores : OnOk r (RoomBecomes (next_stores changes old) old new)
   pub raised : OnOk r (new.generation ≡ old.generation + length changes)
-  pub reached : OnOk r (Reached indexed s old changes before after)
+  pub reached : OnOk r (ChangesReach indexed s old changes before after)

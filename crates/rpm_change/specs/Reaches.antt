@@ -1,4 +1,4 @@
--- How far the two files reach, once the changes of a command are made: as in a group, a file never gets shorter.
+-- How far the two files reach, once the changes of a command are made: as in a transaction, a file never gets shorter.
 use Rattle.std.specs.Prelude.{◌≡◌, ℕ, ◌+◌, ◌≤◌, max, List, [], ◌∷◌, ◌++◌, length, Bool, true, unwrap_or}
 use Rattle.rpm_outside.specs.Files.{Files}
 use Rattle.rpm_hindex.specs.Rows.{Row}
@@ -6,7 +6,7 @@ use Rattle.rpm_hindex.specs.Sizes.{units_for}
 use Rattle.rpm_pkgdb.specs.Reaches.{store_end}
 use Rattle.rpm_pkgdb.specs.Store.{Store}
 use Rattle.rpm_db.specs.Changes.{Change, apply}
-use Rattle.rpm_db.specs.Reaches.{added, added_rows, needed}
+use Rattle.rpm_db.specs.Reaches.{added_units, added_rows, units_needed_after}
 use Rattle.rpm_db.specs.Room.{next_store}
 use Rattle.rpm_db.specs.Rows.{rows}
 use Rattle.rpm_db.specs.State.{State}
@@ -15,12 +15,14 @@ use Rattle.rpm_db.specs.State.{State}
 abbrev pub pkg_reach : ℕ → Store → List Change → ℕ
 pkg_reach units value [] = units
 pkg_reach units value (change ∷ changes) =
-    pkg_reach (max units (store_end (unwrap_or (next_store change value) value))) (unwrap_or (next_store change value) value) changes
+    pkg_reach (max units (store_end (unwrap_or (next_store change value) value)))
+    (unwrap_or (next_store change value) value) changes
 
 -- Hindex.db gets the records that a change adds after what it has, or is made from scratch
 abbrev pub idx_reach : ℕ → State → List Change → ℕ
 idx_reach units s [] = units
-idx_reach units s (change ∷ changes) = idx_reach (max (units + added s change) (needed s change)) (apply change s) changes
+idx_reach units s (change ∷ changes) =
+    idx_reach (max (units + added_units s change) (units_needed_after s change)) (apply change s) changes
 
 -- the rows that these changes bring into the index, from a state on
 abbrev pub all_added : State → List Change → List Row
@@ -28,11 +30,12 @@ all_added s [] = []
 all_added s (change ∷ changes) = added_rows s change ++ all_added (apply change s) changes
 
 -- no file is longer than these changes make it; Hindex.db where the index is asked
-pub record Reached (indexed : Bool) (s : State) (value : Store) (changes : List Change) (old new : Files) : Type 0 where
+pub record ChangesReach (indexed : Bool) (s : State) (value : Store) (changes : List Change)
+    (old new : Files) : Type 0 where
   pub pkg : length new.pkg ≤ pkg_reach (length old.pkg) value changes
   pub idx : indexed ≡ true → length new.idx ≤ idx_reach (length old.idx) s changes
 
 -- a list of changes leaves the files no longer than this where the index is made before them, whatever it was
-pub record ReachedAnew (s : State) (value : Store) (changes : List Change) (old new : Files) : Type 0 where
+pub record ChangesReachAnew (s : State) (value : Store) (changes : List Change) (old new : Files) : Type 0 where
   pub pkg : length new.pkg ≤ pkg_reach (length old.pkg) value changes
   pub idx : length new.idx ≤ idx_reach (max (length old.idx) (units_for (rows s.packages))) s changes

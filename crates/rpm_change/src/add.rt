@@ -1,7 +1,7 @@
 //! Adding package files.
 
 ghost use Rattle.std.specs.Prelude.{◌≡◌, ℕ, ◌+◌, ◌^◌, ◌<◌, Some, None, length, map, IsTrue, Ok, Err, IfOk, IfErr};
-ghost use Rattle.rpm_change.specs.Prelude.{add_files, EndedOnErr, Hand, IsGathering, IsHeld, KeepsShelf, IsOfPutting, IsReady, put_file, state_in, Went, WentOwing};
+ghost use Rattle.rpm_change.specs.Prelude.{add_files, EndedOnErr, Hand, IsGathering, HasTarget, KeepsShelf, IsOfPutting, IsReady, put_file, state_in, ProgressInBoth, ProgressOwing};
 
 use crate::install::read_installed;
 use crate::single::put_within;
@@ -30,8 +30,8 @@ pub fn put_file<D: Disk, S: Shelf, E: Sink + Drop>(
     err: &mut Buffered<E>,
 ) -> Result<Tally, Halt>
     requires gathering { IsGathering D.Disk disk.old db.old batch.old }
-    requires held { IsHeld how.number db.old }
-    ensures went { (j : ℕ) → WentOwing D.Disk (IsTrue D.tells × IsTrue S.tells) disk.old disk.new db.old db.new batch.old batch.new result
+    requires held { HasTarget how.number db.old }
+    ensures went { (j : ℕ) → ProgressOwing D.Disk (IsTrue D.tells × IsTrue S.tells) disk.old disk.new db.old db.new batch.old batch.new result
         (EndedOnErr E.Sink err.old err.new) (put_file how (S.paths shelf.old) j path.now) }
     ensures one { IfOk result (λ tally. tally.failed + tally.changes ≡ 1) }
     ensures kinds { IfErr result (IsOfPutting how.number) }
@@ -63,7 +63,7 @@ fn add_each<D: Disk, S: Shelf, E: Sink + Drop>(
 ) -> Result<Tally, Halt>
     requires few { length paths.now < 2 ^ 32 }
     requires gathering { IsGathering D.Disk disk.old db.old batch.old }
-    ensures went { WentOwing D.Disk (IsTrue D.tells × IsTrue S.tells) disk.old disk.new db.old db.new batch.old batch.new result
+    ensures went { ProgressOwing D.Disk (IsTrue D.tells × IsTrue S.tells) disk.old disk.new db.old db.new batch.old batch.new result
         (EndedOnErr E.Sink err.old err.new)
         (add_files (S.paths shelf.old) now (state_in D.Disk disk.old db.old) (map (λ path. path.now) paths.now)) }
     ensures kinds { IfErr result (IsOfPutting None) }
@@ -121,7 +121,7 @@ pub fn add_files<D: Disk, S: Shelf, E: Sink + Drop>(
 ) -> Result<Tally, Halt>
     requires few { length paths.now < 2 ^ 32 }
     requires ready { IsReady D.Disk disk.old db.old }
-    ensures went { Went D.Disk (IsTrue D.tells × IsTrue S.tells) disk.old disk.new db.old db.new result
+    ensures went { ProgressInBoth D.Disk (IsTrue D.tells × IsTrue S.tells) disk.old disk.new db.old db.new result
         (EndedOnErr E.Sink err.old err.new)
         (add_files (S.paths shelf.old) now (state_in D.Disk disk.old db.old) (map (λ path. path.now) paths.now)) }
     ensures kinds { IfErr result (IsOfPutting None) }

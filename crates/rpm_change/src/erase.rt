@@ -1,7 +1,7 @@
 //! Erasing packages.
 
 ghost use Rattle.std.specs.Prelude.{◌≡◌, ℕ, ◌+◌, ◌^◌, ◌<◌, length, IsTrue, Err, IfOk, IfErr};
-ghost use Rattle.rpm_change.specs.Prelude.{EndedOnErr, erase, erase_one, Hand, IsGathering, IsOfErasing, IsReady, state_in, Went, WentOwing};
+ghost use Rattle.rpm_change.specs.Prelude.{EndedOnErr, erase, erase_one, Hand, IsGathering, IsOfErasing, IsReady, state_in, ProgressInBoth, ProgressOwing};
 
 use crate::missing::put_missing;
 use rpm_db::{Batch, Db};
@@ -19,7 +19,7 @@ fn erase_one<D: Disk, E: Sink + Drop>(
     err: &mut Buffered<E>,
 ) -> Result<Tally, Halt>
     requires gathering { IsGathering D.Disk disk.old db.old batch.old }
-    ensures went { (j : ℕ) → WentOwing D.Disk (IsTrue D.tells) disk.old disk.new db.old db.new batch.old batch.new result
+    ensures went { (j : ℕ) → ProgressOwing D.Disk (IsTrue D.tells) disk.old disk.new db.old db.new batch.old batch.new result
         (EndedOnErr E.Sink err.old err.new) (erase_one (state_in D.Disk disk.old db.old) j number) }
     ensures one { IfOk result (λ tally. tally.failed + tally.changes ≡ 1) }
     ensures kinds { IfErr result IsOfErasing }
@@ -44,7 +44,7 @@ fn erase_each<D: Disk, E: Sink + Drop>(
 ) -> Result<Tally, Halt>
     requires few { length numbers.now < 2 ^ 32 }
     requires gathering { IsGathering D.Disk disk.old db.old batch.old }
-    ensures went { WentOwing D.Disk (IsTrue D.tells) disk.old disk.new db.old db.new batch.old batch.new result
+    ensures went { ProgressOwing D.Disk (IsTrue D.tells) disk.old disk.new db.old db.new batch.old batch.new result
         (EndedOnErr E.Sink err.old err.new) (erase (state_in D.Disk disk.old db.old) numbers.now) }
     ensures kinds { IfErr result IsOfErasing }
     ensures err { Hand E.Sink (result ≡ Err Halt.ErrFault) err.old err.new }
@@ -91,7 +91,7 @@ pub fn erase_numbers<D: Disk, E: Sink + Drop>(
 ) -> Result<Tally, Halt>
     requires few { length numbers.now < 2 ^ 32 }
     requires ready { IsReady D.Disk disk.old db.old }
-    ensures went { Went D.Disk (IsTrue D.tells) disk.old disk.new db.old db.new result
+    ensures went { ProgressInBoth D.Disk (IsTrue D.tells) disk.old disk.new db.old db.new result
         (EndedOnErr E.Sink err.old err.new) (erase (state_in D.Disk disk.old db.old) numbers.now) }
     ensures kinds { IfErr result IsOfErasing }
     ensures err { Hand E.Sink (result ≡ Err Halt.ErrFault) err.old err.new }

@@ -1,7 +1,7 @@
 //! Importing a list of headers.
 
 ghost use Rattle.std.specs.Prelude.{◌≡◌, ◌^◌, ◌<◌, codes, IsTrue, Err, IfErr};
-ghost use Rattle.rpm_change.specs.Prelude.{bytes_at, EndedOnErr, Hand, KeepsShelf, import_list, import_listed, IsGathering, IsOfImporting, IsReady, left, listed, max_headers, Went, WentOwing};
+ghost use Rattle.rpm_change.specs.Prelude.{bytes_at, EndedOnErr, Hand, KeepsShelf, import_list, import_listed, IsGathering, IsOfImporting, IsReady, bytes_left, listed_headers, max_headers, ProgressInBoth, ProgressOwing};
 
 use crate::turn::import_next;
 use rpm_db::{Batch, Db};
@@ -24,9 +24,9 @@ fn import_all<D: Disk, S: Shelf, E: Sink + Drop>(
 ) -> Result<Tally, Halt>
     requires few { most < 2 ^ 31 }
     requires gathering { IsGathering D.Disk disk.old db.old batch.old }
-    ensures went { WentOwing D.Disk (IsTrue D.tells × IsTrue S.tells) disk.old disk.new db.old db.new batch.old
+    ensures went { ProgressOwing D.Disk (IsTrue D.tells × IsTrue S.tells) disk.old disk.new db.old db.new batch.old
         batch.new result (EndedOnErr E.Sink err.old err.new)
-        (import_listed most (listed (left (S.rest shelf.old)))) }
+        (import_listed most (listed_headers (bytes_left (S.rest shelf.old)))) }
     ensures kinds { IfErr result IsOfImporting }
     ensures shelf { KeepsShelf S.Shelf (result ≡ Err Halt.ShelfFault) shelf.old shelf.new }
     ensures err { Hand E.Sink (result ≡ Err Halt.ErrFault) err.old err.new }
@@ -58,7 +58,7 @@ pub fn import_most<D: Disk, S: Shelf, E: Sink + Drop>(
 ) -> Result<Tally, Halt>
     requires few { most < 2 ^ 31 }
     requires ready { IsReady D.Disk disk.old db.old }
-    ensures went { Went D.Disk (IsTrue D.tells × IsTrue S.tells) disk.old disk.new db.old db.new result
+    ensures went { ProgressInBoth D.Disk (IsTrue D.tells × IsTrue S.tells) disk.old disk.new db.old db.new result
         (EndedOnErr E.Sink err.old err.new) (import_list most (bytes_at (S.paths shelf.old) (codes "-"))) }
     ensures kinds { IfErr result IsOfImporting }
     ensures shelf { KeepsShelf S.Shelf (result ≡ Err Halt.ShelfFault) shelf.old shelf.new }
@@ -112,7 +112,7 @@ pub fn import_list<D: Disk, S: Shelf, E: Sink + Drop>(
     err: &mut Buffered<E>,
 ) -> Result<Tally, Halt>
     requires ready { IsReady D.Disk disk.old db.old }
-    ensures went { Went D.Disk (IsTrue D.tells × IsTrue S.tells) disk.old disk.new db.old db.new result
+    ensures went { ProgressInBoth D.Disk (IsTrue D.tells × IsTrue S.tells) disk.old disk.new db.old db.new result
         (EndedOnErr E.Sink err.old err.new) (import_list max_headers (bytes_at (S.paths shelf.old) (codes "-"))) }
     ensures kinds { IfErr result IsOfImporting }
     ensures shelf { KeepsShelf S.Shelf (result ≡ Err Halt.ShelfFault) shelf.old shelf.new }

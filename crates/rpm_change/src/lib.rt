@@ -1,7 +1,7 @@
 //! What a command line changes in the database.
 //!
 //! The commands that change packages: each of them has a function here that goes through its arguments in order, over
-//! any disk, and makes one change of the database after the other. Over an overlay they are one group.
+//! any disk, and makes one change of the database after the other. Over an overlay they are one transaction.
 #![tactic(auto)]
 
 mod add;

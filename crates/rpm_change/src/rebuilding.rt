@@ -2,7 +2,7 @@
 
 ghost use Rattle.std.specs.Prelude.{◌≡◌, ◌+◌, ◌≤◌, true, IsTrue, Some, Err, IfOk, IfErr, OnOk};
 ghost use Rattle.std.specs.FinMap as finite;
-ghost use Rattle.rpm_change.specs.Prelude.{Bad, DiskFault, dropped, dropped_line, EndedOnOut, first_limit, Hand, holds, is_indexed, IsCurrent, IsGathering, IsOfRebuilding, IsReady, next_stores, Package, ReachedAnew, rebuild, room, RoomBecomes, Runs, SameLog, state_in, StopsAt, Went, WentOwing};
+ghost use Rattle.rpm_change.specs.Prelude.{Bad, DiskFault, dropped_course, dropped_line, EndedOnOut, limit_of_command, Hand, holds, is_indexed, IsCurrent, IsGathering, IsOfRebuilding, IsReady, next_stores, Package, ChangesReachAnew, rebuild, store_of, RoomBecomes, Runs, SameLog, state_in, MeetsLimit, ProgressInBoth, ProgressOwing};
 
 use crate::single::take_within;
 use itoa::Buffer;
@@ -36,8 +36,8 @@ fn drop_bad<D: Disk, O: Sink + Drop>(
 ) -> Result<Tally, Halt>
     requires held { holds number db.old ≡ true }
     requires gathering { IsGathering D.Disk disk.old db.old batch.old }
-    ensures went { WentOwing D.Disk (IsTrue D.tells) disk.old disk.new db.old db.new batch.old batch.new result
-        (EndedOnOut O.Sink out.old out.new) (dropped number Bad) }
+    ensures went { ProgressOwing D.Disk (IsTrue D.tells) disk.old disk.new db.old db.new batch.old batch.new result
+        (EndedOnOut O.Sink out.old out.new) (dropped_course number Bad) }
     ensures one { IfOk result (λ tally. tally ≡ record { failed = 0; changes = 1 }) }
     ensures kinds { IfErr result IsOfRebuilding }
     ensures out { Hand O.Sink (result ≡ Err Halt.OutFault) out.old out.new }
@@ -63,9 +63,9 @@ fn drop_one<D: Disk, O: Sink + Drop>(
 ) -> Result<Tally, Halt>
     requires held { holds number db.old ≡ true }
     requires gathering { IsGathering D.Disk disk.old db.old batch.old }
-    ensures went { (p : Package) → WentOwing D.Disk
+    ensures went { (p : Package) → ProgressOwing D.Disk
         (IsTrue D.tells × (finite.get (state_in D.Disk disk.old db.old).packages number ≡ Some p))
-        disk.old disk.new db.old db.new batch.old batch.new result (EndedOnOut O.Sink out.old out.new) (dropped number p) }
+        disk.old disk.new db.old db.new batch.old batch.new result (EndedOnOut O.Sink out.old out.new) (dropped_course number p) }
     ensures one { IfOk result (λ tally. tally.failed + tally.changes ≤ 1) }
     ensures kinds { IfErr result IsOfRebuilding }
     ensures out { Hand O.Sink (result ≡ Err Halt.OutFault) out.old out.new }
@@ -92,7 +92,7 @@ fn drop_each<D: Disk, O: Sink + Drop>(
     out: &mut Buffered<O>,
 ) -> Result<Tally, Halt>
     requires gathering { IsGathering D.Disk disk.old db.old batch.old }
-    ensures went { WentOwing D.Disk (IsTrue D.tells) disk.old disk.new db.old db.new batch.old batch.new result
+    ensures went { ProgressOwing D.Disk (IsTrue D.tells) disk.old disk.new db.old db.new batch.old batch.new result
         (EndedOnOut O.Sink out.old out.new) (rebuild (state_in D.Disk disk.old db.old)) }
     ensures kinds { IfErr result IsOfRebuilding }
     ensures out { Hand O.Sink (result ≡ Err Halt.OutFault) out.old out.new }
@@ -118,7 +118,7 @@ fn drop_all<D: Disk, O: Sink + Drop>(
     out: &mut Buffered<O>,
 ) -> Result<Tally, Halt>
     requires ready { IsReady D.Disk disk.old db.old }
-    ensures went { Went D.Disk (IsTrue D.tells) disk.old disk.new db.old db.new result
+    ensures went { ProgressInBoth D.Disk (IsTrue D.tells) disk.old disk.new db.old db.new result
         (EndedOnOut O.Sink out.old out.new) (rebuild (state_in D.Disk disk.old db.old)) }
     ensures kinds { IfErr result IsOfRebuilding }
     ensures out { Hand O.Sink (result ≡ Err Halt.OutFault) out.old out.new }
@@ -160,14 +160,14 @@ pub fn rebuild<D: Disk, O: Sink + Drop>(
     requires ready { IsReady D.Disk disk.old db.old }
     ensures ended { IsTrue D.tells → EndedOnOut O.Sink out.old out.new (rebuild (state_in D.Disk disk.old db.old))
         (state_in D.Disk disk.old db.old) (state_in D.Disk disk.new db.new) result }
-    ensures limits { IsTrue D.tells → StopsAt true (first_limit true (state_in D.Disk disk.old db.old) (room db.old)
+    ensures limits { IsTrue D.tells → MeetsLimit true (limit_of_command true (state_in D.Disk disk.old db.old) (store_of db.old)
         (rebuild (state_in D.Disk disk.old db.old)).changes) result }
     ensures current { IfOk result (λ _tally. IsCurrent D.Disk disk.new db.new) }
     ensures indexed { is_indexed db.new ≡ true }
     ensures stores { OnOk result (IsTrue D.tells
-        → RoomBecomes (next_stores (rebuild (state_in D.Disk disk.old db.old)).changes (room db.old)) (room db.old)
-        (room db.new)) }
-    ensures reach { OnOk result (IsTrue D.tells → ReachedAnew (state_in D.Disk disk.old db.old) (room db.old)
+        → RoomBecomes (next_stores (rebuild (state_in D.Disk disk.old db.old)).changes (store_of db.old)) (store_of db.old)
+        (store_of db.new)) }
+    ensures reach { OnOk result (IsTrue D.tells → ChangesReachAnew (state_in D.Disk disk.old db.old) (store_of db.old)
         (rebuild (state_in D.Disk disk.old db.old)).changes (D.files disk.old) (D.files disk.new)) }
     ensures kinds { IfErr result IsOfRebuilding }
     ensures runs { Runs D.Disk SameLog disk.old disk.new }

@@ -1,7 +1,7 @@
 //! A package file in place of a package.
 
 ghost use Rattle.std.specs.Prelude.{◌≡◌, ◌+◌, Some, false, IsTrue, Err, IfOk, IfErr};
-ghost use Rattle.rpm_change.specs.Prelude.{EndedOnErr, Hand, IsHeld, KeepsShelf, holds, IsOfPutting, IsReady, put_file, replace, state_in, Went};
+ghost use Rattle.rpm_change.specs.Prelude.{EndedOnErr, Hand, HasTarget, KeepsShelf, holds, IsOfPutting, IsReady, put_file, replace, state_in, ProgressInBoth};
 
 use crate::add::{Placing, put_file};
 use crate::missing::put_missing;
@@ -21,8 +21,8 @@ fn put_alone<D: Disk, S: Shelf, E: Sink + Drop>(
     err: &mut Buffered<E>,
 ) -> Result<Tally, Halt>
     requires ready { IsReady D.Disk disk.old db.old }
-    requires held { IsHeld how.number db.old }
-    ensures went { Went D.Disk (IsTrue D.tells × IsTrue S.tells) disk.old disk.new db.old db.new result
+    requires held { HasTarget how.number db.old }
+    ensures went { ProgressInBoth D.Disk (IsTrue D.tells × IsTrue S.tells) disk.old disk.new db.old db.new result
         (EndedOnErr E.Sink err.old err.new) (put_file how (S.paths shelf.old) 0 path.now) }
     ensures one { IfOk result (λ tally. tally.failed + tally.changes ≡ 1) }
     ensures kinds { IfErr result (IsOfPutting how.number) }
@@ -67,7 +67,7 @@ pub fn replace_package<D: Disk, S: Shelf, E: Sink + Drop>(
     err: &mut Buffered<E>,
 ) -> Result<Tally, Halt>
     requires ready { IsReady D.Disk disk.old db.old }
-    ensures went { Went D.Disk (IsTrue D.tells × IsTrue S.tells) disk.old disk.new db.old db.new result
+    ensures went { ProgressInBoth D.Disk (IsTrue D.tells × IsTrue S.tells) disk.old disk.new db.old db.new result
         (EndedOnErr E.Sink err.old err.new)
         (replace (S.paths shelf.old) now (state_in D.Disk disk.old db.old) number path.now) }
     ensures one { IfOk result (λ tally. tally.failed + tally.changes ≡ 1) }

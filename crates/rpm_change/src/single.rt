@@ -1,7 +1,7 @@
 //! One change of the database, while a batch goes on.
 
 ghost use Rattle.std.specs.Prelude.{◌≡◌, true, Ok};
-ghost use Rattle.rpm_change.specs.Prelude.{change_at, Erase, GathersOne, header, holds, IsGathering, IsHeld, read_again};
+ghost use Rattle.rpm_change.specs.Prelude.{change_at, Erase, GathersOne, header, holds, IsGathering, HasTarget, read_again};
 
 use rpm_db::{Batch, Db};
 use rpm_effects::{CHANGED, Halt, Tally};
@@ -25,7 +25,7 @@ pub fn put_within<D: Disk>(
     blob: &[u8],
 ) -> Result<Tally, Halt>
     requires gathering { IsGathering D.Disk disk.old db.old batch.old }
-    requires held { IsHeld number db.old }
+    requires held { HasTarget number db.old }
     requires own { header blob.now ≡ Ok (read_again blob.now) }
     ensures { GathersOne D.Disk (change_at number blob.now) disk.old disk.new db.old db.new batch.old batch.new result }
 {

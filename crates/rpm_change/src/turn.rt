@@ -1,7 +1,7 @@
 //! One step through a list of headers.
 
 ghost use Rattle.std.specs.Prelude.{◌≡◌, ◌+◌, ◌<◌, ◌≤◌, true, IsTrue, Err, IfOk, IfErr};
-ghost use Rattle.rpm_change.specs.Prelude.{EndedOnErr, Hand, IsGathering, IsOfHeaders, IsOfImporting, KeepsShelf, Leaves, left, list_head, StopIs, tally_of, turn, turn_found, WentOwing};
+ghost use Rattle.rpm_change.specs.Prelude.{EndedOnErr, Hand, IsGathering, IsOfHeaders, IsOfImporting, KeepsShelf, ListEnd, bytes_left, list_head, HaltOfList, tally_of, turn, turn_found, ProgressOwing};
 
 use crate::places::{list_text, put_bad_header, put_place};
 use rpm_db::{Batch, ChangeFault, Db};
@@ -19,7 +19,7 @@ pub struct Turn {
 
 /// Why the command stops where a header can't be taken from the list; `None` for a fault of the list itself.
 fn stop_of(fault: ListFault) -> Option<Halt>
-    ensures { StopIs fault result }
+    ensures { HaltOfList fault result }
 {
     match fault {
         ListFault::ReadFault => Some(Halt::ShelfFault),
@@ -43,7 +43,7 @@ fn import_header<D: Disk, E: Sink + Drop>(
     err: &mut Buffered<E>,
 ) -> Result<Tally, Halt>
     requires gathering { IsGathering D.Disk disk.old db.old batch.old }
-    ensures went { WentOwing D.Disk (IsTrue D.tells) disk.old disk.new db.old db.new batch.old batch.new result
+    ensures went { ProgressOwing D.Disk (IsTrue D.tells) disk.old disk.new db.old db.new batch.old batch.new result
         (EndedOnErr E.Sink err.old err.new) (turn_found most place blob.now) }
     ensures one { IfOk result (λ tally. tally.failed + tally.changes ≡ 1) }
     ensures kinds { IfErr result IsOfHeaders }
@@ -73,11 +73,11 @@ pub fn import_next<D: Disk, S: Shelf, E: Sink + Drop>(
     err: &mut Buffered<E>,
 ) -> Result<Turn, Halt>
     requires gathering { IsGathering D.Disk disk.old db.old batch.old }
-    ensures went { WentOwing D.Disk (IsTrue D.tells × IsTrue S.tells) disk.old disk.new db.old db.new batch.old
+    ensures went { ProgressOwing D.Disk (IsTrue D.tells × IsTrue S.tells) disk.old disk.new db.old db.new batch.old
         batch.new (tally_of result) (EndedOnErr E.Sink err.old err.new)
-        (turn most place (list_head (left (S.rest shelf.old)))) }
+        (turn most place (list_head (bytes_left (S.rest shelf.old)))) }
     ensures leaves { IfOk result (λ done. IsTrue S.tells
-        → Leaves most place (list_head (left (S.rest shelf.old))) done.is_last (left (S.rest shelf.new))) }
+        → ListEnd most place (list_head (bytes_left (S.rest shelf.old))) done.is_last (bytes_left (S.rest shelf.new))) }
     ensures last { IfOk result (λ done. most < place → done.is_last ≡ true) }
     ensures one { IfOk result (λ done. done.tally.failed + done.tally.changes ≤ 1) }
     ensures kinds { IfErr result IsOfImporting }

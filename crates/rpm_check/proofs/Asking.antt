@@ -4,11 +4,13 @@ use Rattle.std.specs.Prelude.{Result, OnOk, OnErr, IfOk, IfErr, IsTrue, false}
 use Rattle.std.specs.Result.{IsErrAnd}
 use Rattle.std.proofs.lemmas.Result.{err_from_is_err_and}
 use Rattle.rpm_outside.specs.declared.disk.Disk as disk
-use Rattle.rpm_check.proofs.Vocabulary.{Asks, AsksIndex, AsksPackages, CheckFault, Database, DiskFault, fault_in, Files, is_broken, is_of_index, IsAskable, IsBroken, Keeps}
-use Rattle.rpm_check.proofs.Vocabulary.{FinMap, HasIndexRows, KeepsIndex, Kept, KeptIndex, Kind, nat_cmp, NoMemory, Package, packages, PickFault, room, Units}
+use Rattle.rpm_check.proofs.Vocabulary.{CheckQuestion, AsksIndex, AsksPackages, CheckFault, Database, DiskFault, check_fault, Files, is_broken_index, is_index_fault, IsAskable, IsBroken, Keeps}
+use Rattle.rpm_check.proofs.Vocabulary.{FinMap, HasIndexRows, KeepsIndex, IsStoreKept, IsIndexKept, Kind, nat_cmp, NoMemory, Package, packages, PickFault, store_of, Units}
 use Rattle.rpm_select.specs.declared.picked.PickFault.TheVariants as pick
 use Rattle.rpm_select.specs.Picks as picks
-use Rattle.rpm_check.specs.Frame.{Glances, HasRows, packages_in}
+use Rattle.rpm_check.specs.Frame.{OnlyReadsBoth}
+use Rattle.rpm_select.specs.Frame.{HasKeptRows}
+use Rattle.rpm_db.specs.Frame.{packages_in}
 use Rattle.rpm_check.proofs.Faulting.{broken_from}
 use Rattle.rpm_check.proofs.Glancing.{glances_none, glances_then, glances_index, glances_packages}
 
@@ -29,25 +31,25 @@ memory_unbroken : {X : Type 0} (r : Result X CheckFault) (idx : Units) → OnErr
 memory_unbroken (Ok x) idx is = tt
 memory_unbroken (Err fault) idx is = (let memory : NoMemory ≡ fault = cc in subst (IsBroken idx) memory tt)
 
-memory_lawful : {X : Type 0} (r : Result X CheckFault) → OnErr r (r ≡ Err NoMemory) → is_broken r ≡ false
+memory_lawful : {X : Type 0} (r : Result X CheckFault) → OnErr r (r ≡ Err NoMemory) → is_broken_index r ≡ false
 memory_lawful (Ok x) is = refl
-memory_lawful (Err fault) is = ap is_broken is
+memory_lawful (Err fault) is = ap is_broken_index is
 
 memory_no_fault : {X : Type 0} (r : Result X CheckFault) → OnErr r (r ≡ Err NoMemory) → r ≡ Err DiskFault → ⊥
 memory_no_fault (Ok x) is hit = absurd cc
 memory_no_fault (Err fault) is hit = absurd cc
 
-of_index_in : (fault : PickFault) → is_of_index (fault_in fault) ≡ picks.is_of_index fault
+of_index_in : (fault : PickFault) → is_index_fault (check_fault fault) ≡ picks.is_of_index fault
 of_index_in (pick.BadIndex unit) = refl
 of_index_in pick.DiskFault = refl
 of_index_in pick.NoMemory = refl
 
-unbroken_in : (fault : PickFault) (idx : Units) → picks.is_of_index fault ≡ false → IsBroken idx (fault_in fault)
+unbroken_in : (fault : PickFault) (idx : Units) → picks.is_of_index fault ≡ false → IsBroken idx (check_fault fault)
 unbroken_in (pick.BadIndex unit) idx is = absurd cc
 unbroken_in pick.DiskFault idx is = tt
 unbroken_in pick.NoMemory idx is = tt
 
-disk_in : (fault : PickFault) → fault_in fault ≡ DiskFault → fault ≡ pick.DiskFault
+disk_in : (fault : PickFault) → check_fault fault ≡ DiskFault → fault ≡ pick.DiskFault
 disk_in (pick.BadIndex unit) is = absurd cc
 disk_in pick.DiskFault is = refl
 disk_in pick.NoMemory is = absurd cc
@@ -67,9 +69,9 @@ err_in X a b is = cc
 module _ {D : Type 0} (d : disk.Ghosts D) where
   -- so far it can be asked further, and nothing but reading happened
   pub record Asking (old new : D) (db : Database) : Type 0 where
-    pub keeps : Kept d new db
-    pub keeps_index : KeptIndex d new db
-    pub looks : Glances d old new
+    pub keeps : IsStoreKept d new db
+    pub keeps_index : IsIndexKept d new db
+    pub looks : OnlyReadsBoth d old new
     pub faults : d.faults old ≤ d.faults new
 
   pub asking_none : ((a : D) → d.follows a a) → (a : D) (db : Database) → IsAskable d a db → Asking a a db
@@ -81,7 +83,7 @@ module _ {D : Type 0} (d : disk.Ghosts D) where
   }
 
   pub asking_then : {X : Type 0} {r : Result X CheckFault} → ((a b c : D) → d.follows a b → d.follows b c → d.follows a c) → (a b c : D) (db : Database)
-      → Asking a b db → Asks d b c db r → Asking a c db
+      → Asking a b db → CheckQuestion d b c db r → Asking a c db
   asking_then trans a b c db first second = record {
     keeps = second.kept;
     keeps_index = second.kept_index;
@@ -89,7 +91,7 @@ module _ {D : Type 0} (d : disk.Ghosts D) where
     faults = omega (arith, first.faults, second.cause.later);
   }
 
-  pub asking_of : {X : Type 0} {r : Result X CheckFault} {a b : D} {db : Database} → Asks d a b db r → Asking a b db
+  pub asking_of : {X : Type 0} {r : Result X CheckFault} {a b : D} {db : Database} → CheckQuestion d a b db r → Asking a b db
   asking_of asks = record { keeps = asks.kept; keeps_index = asks.kept_index; looks = asks.looks; faults = asks.cause.later }
 
   -- a picker was made
@@ -113,7 +115,7 @@ module _ {D : Type 0} (d : disk.Ghosts D) where
   }
 
   -- so far, and it ended: it was answered, or memory was refused
-  pub asks_ended : {X : Type 0} (r : Result X CheckFault) {a b : D} {db : Database} → Asking a b db → OnErr r (r ≡ Err NoMemory) → Asks d a b db r
+  pub asks_ended : {X : Type 0} (r : Result X CheckFault) {a b : D} {db : Database} → Asking a b db → OnErr r (r ≡ Err NoMemory) → CheckQuestion d a b db r
   asks_ended r {a} asked is = record {
     kept = asked.keeps;
     kept_index = asked.keeps_index;
@@ -123,12 +125,13 @@ module _ {D : Type 0} (d : disk.Ghosts D) where
     cause = record { later = asked.faults; rose = λ hit. absurd (memory_no_fault r is hit) };
   }
 
-  pub asks_memory : {X : Type 0} {r : Result X CheckFault} {a b : D} {db : Database} → Asking a b db → IsErrAnd r (λ fault. fault ≡ NoMemory) → Asks d a b db r
+  pub asks_memory : {X : Type 0} {r : Result X CheckFault} {a b : D} {db : Database} → Asking a b db → IsErrAnd r (λ fault. fault ≡ NoMemory)
+      → CheckQuestion d a b db r
   asks_memory {X} {r} asked is = (let p = err_from_is_err_and r is in rw (p.1, p.2) (asks_ended (failed X NoMemory) asked refl))
 
   -- and then a call answered this
   pub asks_then : {X : Type 0} {r : Result X CheckFault} → ((a b c : D) → d.follows a b → d.follows b c → d.follows a c) → {a b c : D} {db : Database}
-      → Asking a b db → Asks d b c db r → Asks d a c db r
+      → Asking a b db → CheckQuestion d b c db r → CheckQuestion d a c db r
   asks_then {r = r} trans {a} {b} {c} {db} first second = record {
     kept = second.kept;
     kept_index = second.kept_index;
@@ -143,8 +146,8 @@ module _ {D : Type 0} (d : disk.Ghosts D) where
   }
 
   -- its fault, handed on in an answer of another type
-  pub asks_failed : {X Y : Type 0} {fault : CheckFault} {r : Result Y CheckFault} {a b : D} {db : Database} → Asks d a b db (failed X fault)
-      → IsErrAnd r (λ e. e ≡ fault) → Asks d a b db r
+  pub asks_failed : {X Y : Type 0} {fault : CheckFault} {r : Result Y CheckFault} {a b : D} {db : Database} → CheckQuestion d a b db (failed X fault)
+      → IsErrAnd r (λ e. e ≡ fault) → CheckQuestion d a b db r
   asks_failed {X} {Y} {fault} {r} asks is =
       let p = err_from_is_err_and r is in
       rw (p.1, p.2) (record {
@@ -158,23 +161,23 @@ module _ {D : Type 0} (d : disk.Ghosts D) where
 
   -- what is known of the packages, while they are asked
   pub known_here : (K : FinMap nat_cmp Package → Type 0) {a b : D} {db : Database} → Asking a b db
-      → (IsTrue d.tells → HasRows d a db → K (packages_in d a db)) → IsTrue d.tells → HasRows d b db → K (packages_in d b db)
+      → (IsTrue d.tells → HasKeptRows d a db → K (packages_in d a db)) → IsTrue d.tells → HasKeptRows d b db → K (packages_in d b db)
   known_here K {db = db} asked is told =
-      subst (λ (f : Files). HasIndexRows db f.pkg f.idx → K (packages f.pkg (room db))) (sym (asked.looks.untouched told).same) (is told)
+      subst (λ (f : Files). HasIndexRows db f.pkg f.idx → K (packages f.pkg (store_of db))) (sym (asked.looks.untouched told).same) (is told)
 
   pub known_back : (K : FinMap nat_cmp Package → Type 0) {a b : D} {db : Database} → Asking a b db
-      → (IsTrue d.tells → HasRows d b db → K (packages_in d b db)) → IsTrue d.tells → HasRows d a db → K (packages_in d a db)
+      → (IsTrue d.tells → HasKeptRows d b db → K (packages_in d b db)) → IsTrue d.tells → HasKeptRows d a db → K (packages_in d a db)
   known_back K {db = db} asked is told =
-      subst (λ (f : Files). HasIndexRows db f.pkg f.idx → K (packages f.pkg (room db))) (asked.looks.untouched told).same (is told)
+      subst (λ (f : Files). HasIndexRows db f.pkg f.idx → K (packages f.pkg (store_of db))) (asked.looks.untouched told).same (is told)
 
   -- what follows of their files alone
   pub told_back : (K : FinMap nat_cmp Package → Type 0) {a b : D} {db : Database} → Asking a b db → (IsTrue d.tells → K (packages_in d b db)) → IsTrue d.tells
       → K (packages_in d a db)
-  told_back K {db = db} asked is told = subst (λ (f : Files). K (packages f.pkg (room db))) (asked.looks.untouched told).same (is told)
+  told_back K {db = db} asked is told = subst (λ (f : Files). K (packages f.pkg (store_of db))) (asked.looks.untouched told).same (is told)
 
   -- a picker that failed as it was made
   pub asks_picker : (X Y : Type 0) (keys : List (Kind × List ℕ)) (fault : PickFault) (a b : D) (db : Database) → IsAskable d a db
-      → AsksIndex d keys a b db (unpicked Y fault) → Asks d a b db (failed X (fault_in fault))
+      → AsksIndex d keys a b db (unpicked Y fault) → CheckQuestion d a b db (failed X (check_fault fault))
   asks_picker X Y keys fault a b db asked made = record {
     kept = λ told. subst (λ (f : Files). Keeps f.pkg db) (sym (made.looks.untouched told).same) (asked.keeps told);
     kept_index = made.kept_index;
@@ -186,7 +189,8 @@ module _ {D : Type 0} (d : disk.Ghosts D) where
 
   -- or as it read a package
   pub asks_next : {X Y : Type 0} {fault : PickFault} {r : Result Y CheckFault} {most : ℕ} → ((a b c : D) → d.follows a b → d.follows b c → d.follows a c)
-      → {a b c : D} {db : Database} → Asking a b db → AsksPackages d most b c db (unpicked X fault) → IsErrAnd r (λ e. e ≡ fault_in fault) → Asks d a c db r
+      → {a b c : D} {db : Database} → Asking a b db → AsksPackages d most b c db (unpicked X fault) → IsErrAnd r (λ e. e ≡ check_fault fault)
+      → CheckQuestion d a c db r
   asks_next {X} {fault = fault} trans {a} {db = db} first second is =
       let asked = asking_next trans first second in
       asks_failed (record {

@@ -2,7 +2,7 @@
 use Rattle.std.proofs.Common.{◌≡◌, ℕ, ◌==◌, List, [], ◌∷◌, map, Bool, true, false, not, ◌||◌, Option, Some, None, refl, sym, ap, ◌∙◌}
 use Rattle.std.specs.Prelude.{◌&&◌, filter}
 use Rattle.rpm_check.proofs.Vocabulary.{Bad, edge, edges_from, flat_map, givers, Good, good_numbers, is_edge, is_edge_between, is_end, is_good, is_good_at}
-use Rattle.rpm_check.proofs.Vocabulary.{is_in, IsStrictlyIncreasing, list_any, meets, nat_cmp, Needed, needs_at, needs_of, Package, Rises, rises}
+use Rattle.rpm_check.proofs.Vocabulary.{is_in, IsStrictlyIncreasing, list_any, package_meets, nat_cmp, Need, needs_at, needs_of, Package, Rises, rises}
 use Rattle.rpm_check.proofs.Vocabulary.{same_members}
 use Rattle.std.specs.FinMap as finite
 use Rattle.std.proofs.lemmas.List.Folds.{list_any-append}
@@ -29,13 +29,13 @@ and_turned false x = refl
 
 -- an end is another package that can be read and meets a requirement
 agree : (n m : ℕ) (o p : Option Package)
-    → ((not (n == m) && is_good_at p) && list_any (λ need. holds_at (meets need) m p) (needs_at o))
+    → ((not (n == m) && is_good_at p) && list_any (λ need. holds_at (package_meets need) m p) (needs_at o))
     ≡ (is_edge_between n o m p && is_good_at p)
 agree n m o None = both_false (not (n == m)) (list_any (λ need. false) (needs_at o)) (is_edge_between n o m None)
 agree n m None (Some p) = and_false (not (n == m) && is_good p)
 agree n m (Some o) (Some Bad) =
     both_false (not (n == m)) (list_any (λ need. false) (needs_at (Some o))) (is_edge_between n (Some o) m (Some Bad))
-agree n m (Some o) (Some (Good bytes)) = and_turned (not (n == m)) (list_any (λ need. meets need (m, Good bytes)) (needs_at (Some o)))
+agree n m (Some o) (Some (Good bytes)) = and_turned (not (n == m)) (list_any (λ need. package_meets need (m, Good bytes)) (needs_at (Some o)))
 
 no_edge : (n m : ℕ) (o p : Option Package) → is_good_at o ≡ false → is_edge_between n o m p ≡ false
 no_edge n m None None bad = refl
@@ -44,7 +44,7 @@ no_edge n m (Some (Good bytes)) p bad = absurd cc
 no_edge n m (Some Bad) None bad = refl
 no_edge n m (Some Bad) (Some p) bad = and_false (not (n == m))
 
-never : (needs : List Needed) → list_any (λ need. false) needs ≡ false
+never : (needs : List Need) → list_any (λ need. false) needs ≡ false
 never [] = refl
 never (need ∷ needs) = never needs
 
@@ -70,10 +70,10 @@ in_flat m f [] = refl
 in_flat m f (x ∷ xs) = list_any-append (λ k. k == m) (f x) (flat_map f xs) ∙ ap (λ (b : Bool). is_in m (f x) || b) (in_flat m f xs)
 
 module _ (all : finite.FinMap nat_cmp Package) where
-  giver_in : (m : ℕ) (need : Needed) → is_in m (givers all need) ≡ holds_at (meets need) m (finite.get all m)
+  giver_in : (m : ℕ) (need : Need) → is_in m (givers all need) ≡ holds_at (package_meets need) m (finite.get all m)
   unfolding givers
   giver_in m need =
-      in_numbers (meets need) m (finite.entries all) (finite.entries_sorted all) ∙ ap (holds_at (meets need) m) (sym (finite.get-entries all m))
+      in_numbers (package_meets need) m (finite.entries all) (finite.entries_sorted all) ∙ ap (holds_at (package_meets need) m) (sym (finite.get-entries all m))
 
   pub good_in : (m : ℕ) → is_in m (good_numbers all) ≡ is_good_at (finite.get all m)
   unfolding good_numbers
@@ -85,11 +85,11 @@ module _ (all : finite.FinMap nat_cmp Package) where
   unfolding good_numbers
   goods_rise = numbers_rise (λ e. is_good e.1) (finite.entries all) (finite.entries_sorted all)
 
-  end_in : (m : ℕ) (needs : List Needed)
-      → is_in m (flat_map (givers all) needs) ≡ list_any (λ need. holds_at (meets need) m (finite.get all m)) needs
+  end_in : (m : ℕ) (needs : List Need)
+      → is_in m (flat_map (givers all) needs) ≡ list_any (λ need. holds_at (package_meets need) m (finite.get all m)) needs
   end_in m needs =
       in_flat m (givers all) needs
-      ∙ list_any_same (λ need. is_in m (givers all need)) (λ need. holds_at (meets need) m (finite.get all m)) (giver_in m) needs
+      ∙ list_any_same (λ need. is_in m (givers all need)) (λ need. holds_at (package_meets need) m (finite.get all m)) (giver_in m) needs
 
   same_end : (n m : ℕ) (ends : List ℕ) → is_in m ends ≡ is_in m (flat_map (givers all) (needs_at (finite.get all n)))
       → (is_end (good_numbers all) n m && is_in m ends) ≡ (is_edge all n m && is_in m (good_numbers all))

@@ -1,7 +1,7 @@
 -- The requirements that no package meets rise by number and place, and the next one is the first above a pair.
 use Rattle.rpm_check.proofs.Vocabulary.{above, all_above_zero, AllByRecursion, Bad, below_all, both_true, Database, flat_map, from_one, Good, Header, header}
-use Rattle.rpm_check.proofs.Vocabulary.{HeaderFault, is_above, is_below, is_lt, is_there, IsFirst, IsNext, IsNextUnmet, Keeps, lacks, nat_cmp, Needed}
-use Rattle.rpm_check.proofs.Vocabulary.{none_is, Package, packages, required, room, Units, Unmet, unmet, unmet_after, unmet_at, unmet_in, unmet_of}
+use Rattle.rpm_check.proofs.Vocabulary.{HeaderFault, is_above_pair, is_below, is_lt, is_there, IsFirst, IsNext, IsNextUnmet, Keeps, lacks, nat_cmp, Need}
+use Rattle.rpm_check.proofs.Vocabulary.{none_is, Package, packages, requirements, store_of, Units, Unmet, unmet, unmet_after, unmet_at, unmet_in, unmet_of}
 use Rattle.rpm_check.proofs.Vocabulary.{unmet_read}
 use Rattle.std.proofs.Common.{◌≡◌, ℕ, ◌+◌, ◌-◌, ◌<◌, ◌≤◌, List, [], ◌∷◌, ◌++◌, length, Bool, true, false, Option, Some, None, is_some, Result, Ok, Err}
 use Rattle.std.proofs.Common.{refl, sym, ap, ◌∙◌, subst, inl, inr, arith, nat_lt}
@@ -15,7 +15,7 @@ use Rattle.rpm_check.proofs.Turning.{turns_above, one_turn, no_turn}
 -- ---- rising lists
 
 abbrev Follows : Unmet → Unmet → Type 0
-Follows u v = is_above u.number u.place v ≡ true
+Follows u v = is_above_pair u.number u.place v ≡ true
 
 abbrev Rises : List Unmet → Type 0
 Rises [] = Unit {0}
@@ -45,32 +45,32 @@ first_kept p (y ∷ ys) x rest is = elim (cases_Bool (p y)) [
   | inr other ↦ first_kept p ys x rest (rw other at is)
 ]
 
-above_then : (n i : ℕ) (u v : Unmet) → is_above n i u ≡ true → is_above u.number u.place v ≡ true → is_above n i v ≡ true
+above_then : (n i : ℕ) (u v : Unmet) → is_above_pair n i u ≡ true → is_above_pair u.number u.place v ≡ true → is_above_pair n i v ≡ true
 above_then n i u v first second = grind (arith, nat_tests)
 
-not_back : (n i : ℕ) (u v : Unmet) → is_above n i u ≡ true → is_above n i v ≡ false → is_above u.number u.place v ≡ false
+not_back : (n i : ℕ) (u v : Unmet) → is_above_pair n i u ≡ true → is_above_pair n i v ≡ false → is_above_pair u.number u.place v ≡ false
 not_back n i u v first second = grind (arith, nat_tests)
 
-not_own : (u : Unmet) → is_above u.number u.place u ≡ false
+not_own : (u : Unmet) → is_above_pair u.number u.place u ≡ false
 not_own u = grind (arith, nat_tests)
 
 -- after the first above a pair stand those above it
-behind_first : (n i : ℕ) (us : List Unmet) → Rises us → (u : Unmet) (rest : List Unmet) → filter (is_above n i) us ≡ u ∷ rest
-    → rest ≡ filter (is_above u.number u.place) us
+behind_first : (n i : ℕ) (us : List Unmet) → Rises us → (u : Unmet) (rest : List Unmet) → filter (is_above_pair n i) us ≡ u ∷ rest
+    → rest ≡ filter (is_above_pair u.number u.place) us
 behind_first n i [] rises u rest is = absurd cc
-behind_first n i (x ∷ xs) rises u rest is = elim (cases_Bool (is_above n i x)) [
+behind_first n i (x ∷ xs) rises u rest is = elim (cases_Bool (is_above_pair n i x)) [
   | inr under ↦
-      (let left : filter (is_above n i) xs ≡ u ∷ rest = rw under at is in
-      let back : is_above u.number u.place x ≡ false = not_back n i u x (first_kept (is_above n i) xs u rest left) under in
+      (let left : filter (is_above_pair n i) xs ≡ u ∷ rest = rw under at is in
+      let back : is_above_pair u.number u.place x ≡ false = not_back n i u x (first_kept (is_above_pair n i) xs u rest left) under in
       rw back (behind_first n i xs rises.1 u rest left))
   | inl over ↦
-      (let eq : x ∷ filter (is_above n i) xs ≡ u ∷ rest = rw over at is in
+      (let eq : x ∷ filter (is_above_pair n i) xs ≡ u ∷ rest = rw over at is in
       let same : x ≡ u = cc in
-      let others : filter (is_above n i) xs ≡ rest = cc in
-      let all = kept_all (is_above n i) xs (weaker (Follows x) (λ v. is_above n i v ≡ true) (λ v. above_then n i x v over) xs rises.0) in
-      let whole : rest ≡ filter (is_above x.number x.place) (x ∷ xs) =
-      rw (not_own x) (sym others ∙ all ∙ sym (kept_all (is_above x.number x.place) xs rises.0)) in
-      subst (λ (v : Unmet). rest ≡ filter (is_above v.number v.place) (x ∷ xs)) same whole)
+      let others : filter (is_above_pair n i) xs ≡ rest = cc in
+      let all = kept_all (is_above_pair n i) xs (weaker (Follows x) (λ v. is_above_pair n i v ≡ true) (λ v. above_then n i x v over) xs rises.0) in
+      let whole : rest ≡ filter (is_above_pair x.number x.place) (x ∷ xs) =
+      rw (not_own x) (sym others ∙ all ∙ sym (kept_all (is_above_pair x.number x.place) xs rises.0)) in
+      subst (λ (v : Unmet). rest ≡ filter (is_above_pair v.number v.place) (x ∷ xs)) same whole)
 ]
 
 -- ---- those of the packages rise
@@ -91,8 +91,8 @@ follows_place n place v from = let same = from.0 in let over = from.1 in grind (
 follows_number : (n : ℕ) (u v : Unmet) → u.number ≡ n → n < v.number → Follows u v
 follows_number n u v same over = grind (arith, nat_tests)
 
-module _ (is_lacking : Needed → Bool) where
-  in_package : (n : ℕ) (needs : List Needed) (place : ℕ)
+module _ (is_lacking : Need → Bool) where
+  in_package : (n : ℕ) (needs : List Need) (place : ℕ)
       → Rises (unmet_in is_lacking n needs place) × AllByRecursion (IsFrom n place) (unmet_in is_lacking n needs place)
   in_package n [] place = (tt, tt)
   in_package n (need ∷ needs) place =
@@ -113,8 +113,8 @@ module _ (is_lacking : Needed → Bool) where
 
   of_read : (n : ℕ) (r : Result Header HeaderFault) → Rises (unmet_read is_lacking n r) × AllByRecursion (HasNumber n) (unmet_read is_lacking n r)
   of_read n (Ok h) =
-      let all = in_package n (required h) 0 in
-      (all.0, weaker (IsFrom n 0) (HasNumber n) (λ v from. from.0) (unmet_in is_lacking n (required h) 0) all.1)
+      let all = in_package n (requirements h) 0 in
+      (all.0, weaker (IsFrom n 0) (HasNumber n) (λ v from. from.0) (unmet_in is_lacking n (requirements h) 0) all.1)
   of_read n (Err fault) = (tt, tt)
 
   of_package : (e : ℕ × Package) → Rises (unmet_of is_lacking e) × AllByRecursion (HasNumber e.0) (unmet_of is_lacking e)
@@ -161,14 +161,14 @@ none_kept p (x ∷ xs) all = rw all.0 (none_kept p xs all.1)
 
 -- what a package has above a pair
 abbrev pub after_in : finite.FinMap nat_cmp Package → ℕ → ℕ → ℕ × Package → List Unmet
-after_in all n i e = filter (is_above n i) (unmet_of (lacks all) e)
+after_in all n i e = filter (is_above_pair n i) (unmet_of (lacks all) e)
 
-below_number : (n i : ℕ) (u : Unmet) → u.number < n → is_above n i u ≡ false
+below_number : (n i : ℕ) (u : Unmet) → u.number < n → is_above_pair n i u ≡ false
 below_number n i u under = grind (arith, nat_tests)
 
 nothing_below : (all : finite.FinMap nat_cmp Package) (n i : ℕ) (e : ℕ × Package) → e.0 < n → after_in all n i e ≡ []
 nothing_below all n i e under =
-    none_kept (is_above n i) (unmet_of (lacks all) e) (weaker (HasNumber e.0) (λ u. is_above n i u ≡ false)
+    none_kept (is_above_pair n i) (unmet_of (lacks all) e) (weaker (HasNumber e.0) (λ u. is_above_pair n i u ≡ false)
     (λ u same. below_number n i u (omega (arith, under, same))) (unmet_of (lacks all) e) (of_package (lacks all) e).1)
 
 passed : (all : finite.FinMap nat_cmp Package) (n i k : ℕ) → k < n → (es : List (ℕ × Package))
@@ -183,12 +183,12 @@ passed all n i k under (e ∷ es) = elim (cases_Bool (nat_lt k e.0)) [
 
 -- those above a pair are of the packages from its number on
 pub after_from : (file : Units) (db : Database) (n i : ℕ) → Keeps file db
-    → unmet_after (packages file (room db)) n i ≡ turns_above (packages file (room db)) (after_in (packages file (room db)) n i) (n - 1)
+    → unmet_after (packages file (store_of db)) n i ≡ turns_above (packages file (store_of db)) (after_in (packages file (store_of db)) n i) (n - 1)
 unfolding unmet_after unmet
 after_from file db n i keeps =
-    let all = packages file (room db) in
+    let all = packages file (store_of db) in
     let es = finite.entries all in
-    filter_flat_map (is_above n i) (unmet_of (lacks all)) es ∙ (elim (cases_lt 0 n) [
+    filter_flat_map (is_above_pair n i) (unmet_of (lacks all)) es ∙ (elim (cases_lt 0 n) [
       | inl some ↦ passed all n i (n - 1) (omega (arith, some)) es
       | inr zero ↦
           (let none : n - 1 ≡ 0 = omega (arith, zero) in
@@ -206,10 +206,10 @@ first_none us (Some u) some is = absurd cc
 
 module _ (all : finite.FinMap nat_cmp Package) (n i k m : ℕ) (o : Option Unmet) where
   abbrev Here : Type 0
-  Here = IsFirst (filter (is_above n i) (unmet_at (lacks all) m (finite.get all m))) o
+  Here = IsFirst (filter (is_above_pair n i) (unmet_at (lacks all) m (finite.get all m))) o
 
   at_number : (p : Package) → finite.get all m ≡ Some p → Here → IsFirst (after_in all n i (m, p)) o
-  at_number p is here = subst (λ (q : Option Package). IsFirst (filter (is_above n i) (unmet_at (lacks all) m q)) o) is here
+  at_number p is here = subst (λ (q : Option Package). IsFirst (filter (is_above_pair n i) (unmet_at (lacks all) m q)) o) is here
 
   pub found_here : IsNext (λ q. is_some (finite.get all q)) k (Some m) → unmet_after all n i ≡ turns_above all (after_in all n i) k → Here
       → is_some o ≡ true → IsNextUnmet all n i o
@@ -231,35 +231,35 @@ none_later all n i k next so_far = so_far ∙ no_turn all (after_in all n i) k n
 
 -- ---- requirement by requirement
 
-module _ (is_lacking : Needed → Bool) (n i number place : ℕ) (need : Needed) (needs : List Needed) where
+module _ (is_lacking : Need → Bool) (n i number place : ℕ) (need : Need) (needs : List Need) where
   abbrev pair : Unmet
   pair = record { number = number; place = place }
 
   abbrev from_here : List Unmet
-  from_here = filter (is_above n i) (unmet_in is_lacking number (need ∷ needs) place)
+  from_here = filter (is_above_pair n i) (unmet_in is_lacking number (need ∷ needs) place)
 
-  pub not_lacking : is_lacking need ≡ false → from_here ≡ filter (is_above n i) (unmet_in is_lacking number needs (place + 1))
+  pub not_lacking : is_lacking need ≡ false → from_here ≡ filter (is_above_pair n i) (unmet_in is_lacking number needs (place + 1))
   not_lacking met = rw met refl
 
-  pub not_above : is_above n i pair ≡ false → from_here ≡ filter (is_above n i) (unmet_in is_lacking number needs (place + 1))
+  pub not_above : is_above_pair n i pair ≡ false → from_here ≡ filter (is_above_pair n i) (unmet_in is_lacking number needs (place + 1))
   not_above under = elim (cases_Bool (is_lacking need)) [
     | inl lacking ↦ rw lacking (rw under refl)
     | inr met ↦ not_lacking met
   ]
 
-  pub first_lacking : is_above n i pair ≡ true → is_lacking need ≡ true → IsFirst from_here (Some pair)
-  first_lacking over lacking = (filter (is_above n i) (unmet_in is_lacking number needs (place + 1)), rw lacking (rw over refl))
+  pub first_lacking : is_above_pair n i pair ≡ true → is_lacking need ≡ true → IsFirst from_here (Some pair)
+  first_lacking over lacking = (filter (is_above_pair n i) (unmet_in is_lacking number needs (place + 1)), rw lacking (rw over refl))
 
-pub none_left : (is_lacking : Needed → Bool) (number place : ℕ) (needs : List Needed) → length needs ≡ 0 → unmet_in is_lacking number needs place ≡ []
+pub none_left : (is_lacking : Need → Bool) (number place : ℕ) (needs : List Need) → length needs ≡ 0 → unmet_in is_lacking number needs place ≡ []
 none_left is_lacking number place [] none = refl
 none_left is_lacking number place (need ∷ needs) none = absurd (omega (arith, none))
 
 -- ---- a search begins at (0, 0)
 
-above_zero : (u : Unmet) → IsBehind 0 u → is_above 0 0 u ≡ true
+above_zero : (u : Unmet) → IsBehind 0 u → is_above_pair 0 0 u ≡ true
 above_zero u some = grind (arith, nat_tests)
 
-behind_zero : (is_lacking : Needed → Bool) (es : List (ℕ × Package)) → AllByRecursion (IsBehind 0) (flat_map (unmet_of is_lacking) (above 0 es))
+behind_zero : (is_lacking : Need → Bool) (es : List (ℕ × Package)) → AllByRecursion (IsBehind 0) (flat_map (unmet_of is_lacking) (above 0 es))
 behind_zero is_lacking [] = tt
 behind_zero is_lacking (e ∷ es) = elim (cases_Bool (nat_lt 0 e.0)) [
   | inr zero ↦ rw zero (behind_zero is_lacking es)
@@ -270,11 +270,12 @@ behind_zero is_lacking (e ∷ es) = elim (cases_Bool (nat_lt 0 e.0)) [
       (behind_zero is_lacking es)))
 ]
 
-pub begins : (file : Units) (db : Database) → Keeps file db → unmet_after (packages file (room db)) 0 0 ≡ unmet (packages file (room db))
+pub begins : (file : Units) (db : Database) → Keeps file db → unmet_after (packages file (store_of db)) 0 0 ≡ unmet (packages file (store_of db))
 unfolding unmet_after unmet
 begins file db keeps =
-    let all = packages file (room db) in
+    let all = packages file (store_of db) in
     let whole = all_above_zero all (none_is (finite.get all 0) (is_there file db 0 ∙ from_one file db keeps)) in
     let f = unmet_of (lacks all) in
-    kept_all (is_above 0 0) (flat_map f (finite.entries all)) (weaker (IsBehind 0) (λ u. is_above 0 0 u ≡ true) above_zero (flat_map f (finite.entries all))
+    kept_all (is_above_pair 0 0) (flat_map f (finite.entries all))
+    (weaker (IsBehind 0) (λ u. is_above_pair 0 0 u ≡ true) above_zero (flat_map f (finite.entries all))
     (subst (λ (es : List (ℕ × Package)). AllByRecursion (IsBehind 0) (flat_map f es)) whole (behind_zero (lacks all) (finite.entries all))))

@@ -1,5 +1,5 @@
 -- The numbers of packages that are picked, one after the other.
-use Rattle.rpm_check.proofs.Vocabulary.{above, Database, from_one, Keeps, nat_cmp, next_picked, NextNumberIs, Package, packages, picks, picks_from_one, room}
+use Rattle.rpm_check.proofs.Vocabulary.{above, Database, from_one, Keeps, nat_cmp, next_picked, NextNumberIs, Package, packages, picks, picks_from_one, store_of}
 use Rattle.rpm_check.proofs.Vocabulary.{Selection, Units}
 use Rattle.std.proofs.Common.{◌≡◌, ℕ, List, [], ◌∷◌, ◌++◌, map, Some, Ok, sym, ap, ◌∙◌, append_assoc, append-nil}
 use Rattle.std.specs.FinMap as finite
@@ -15,9 +15,9 @@ gained all sel n m ns new whole next added so_far =
 
 -- no more
 pub all_picked : (file : Units) (db : Database) (sel : Selection) (n : ℕ) (ns : List ℕ) → Keeps file db
-    → above n (picks (packages file (room db)) sel) ≡ []
-    → ns ++ numbers_above (packages file (room db)) sel n ≡ numbers_above (packages file (room db)) sel 0
-    → ns ≡ map (λ e. e.0) (picks (packages file (room db)) sel)
+    → above n (picks (packages file (store_of db)) sel) ≡ []
+    → ns ++ numbers_above (packages file (store_of db)) sel n ≡ numbers_above (packages file (store_of db)) sel 0
+    → ns ≡ map (λ e. e.0) (picks (packages file (store_of db)) sel)
 all_picked file db sel n ns keeps none so_far =
     sym (append-nil ns) ∙ ap (λ (es : List (ℕ × Package)). ns ++ map (λ e. e.0) es) (sym none) ∙ so_far
     ∙ ap (map (λ e. e.0)) (picks_from_one file db sel (from_one file db keeps))

@@ -1,11 +1,11 @@
 -- Runs of calls that read packages and an index.
-use Rattle.std.proofs.Common.{ℕ, Bool, refl, ◌∙◌, arith}
+use Rattle.std.proofs.Common.{ℕ, refl, ◌∙◌, arith}
 use Rattle.rpm_outside.specs.declared.disk.Disk as disk
-use Rattle.rpm_check.proofs.Vocabulary.{File, Files, Glances, Idx, Looks, LooksAt, Pkg}
+use Rattle.rpm_check.proofs.Vocabulary.{OnlyReadsBoth, Idx, OnlyReads, OnlyReadsFile, Pkg}
 
 module _ {D : Type 0} (g : disk.Ghosts D) where
   abbrev Glanced : D → D → Type 0
-  Glanced = Glances g
+  Glanced = OnlyReadsBoth g
 
   pub glances_none : ((d : D) → g.follows d d) → (d : D) → Glanced d d
   glances_none same d = record {
@@ -29,7 +29,7 @@ module _ {D : Type 0} (g : disk.Ghosts D) where
   }
 
   -- packages
-  pub glances_packages : (most : ℕ) (a b : D) → Looks g Pkg most a b → Glanced a b
+  pub glances_packages : (most : ℕ) (a b : D) → OnlyReads g Pkg most a b → Glanced a b
   glances_packages most a b looks = record {
     untouched = looks.untouched;
     moment_stays = looks.moment_stays;
@@ -39,7 +39,7 @@ module _ {D : Type 0} (g : disk.Ghosts D) where
   }
 
   -- the index
-  pub glances_index : (a b : D) → LooksAt g Idx a b → Glanced a b
+  pub glances_index : (a b : D) → OnlyReadsFile g Idx a b → Glanced a b
   glances_index a b looks = record {
     untouched = looks.untouched;
     moment_stays = looks.moment_stays;

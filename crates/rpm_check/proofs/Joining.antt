@@ -1,7 +1,7 @@
 -- Edges that are added to a graph.
 use Rattle.std.proofs.Common.{◌≡◌, ℕ, ◌<◌, ◌≤◌, ◌+◌, ◌==◌, List, [], ◌∷◌, ◌++◌, map, length, get_or, drop, add-one, drop-cons, Bool, true, false, not, Result, Ok, Err, refl, sym, ap, ◌∙◌, subst, inl, inr, arith, append_assoc, append-nil}
 use Rattle.std.specs.Prelude.{filter, is_ok, OnOk, OnErr}
-use Rattle.rpm_check.proofs.Vocabulary.{All, among, AreAbove, BeginsBelow, BeginsUpTo, Edge, edge, is_end, is_in, IsBefore, IsBinarySearchResult, IsRising}
+use Rattle.rpm_check.proofs.Vocabulary.{All, among, AreAbove, BeginsBelow, BeginsUpTo, Edge, edge, is_end, is_in, IsEdgeBefore, IsBinarySearchResult, IsNumberRising}
 use Rattle.rpm_check.proofs.Vocabulary.{Joins, nat_cmp, Network, not_among, or_left, or_right}
 use Rattle.std.proofs.lemmas.Bool.{and_parts, cases_Bool, cases_lt, eq-eqb}
 use Rattle.std.proofs.lemmas.List.Elements.{All-nil, All-cons, All-same, All-append, All-weaker}
@@ -10,13 +10,13 @@ use Rattle.rpm_check.proofs.Members.{contained}
 
 -- ---- what is searched
 
-le_of_rising : (xs : List ℕ) → IsRising xs → (i j : ℕ) → i ≤ j → j < length xs → get_or xs i 0 ≤ get_or xs j 0
+le_of_rising : (xs : List ℕ) → IsNumberRising xs → (i j : ℕ) → i ≤ j → j < length xs → get_or xs i 0 ≤ get_or xs j 0
 le_of_rising xs rising i j le lt = elim (cases_lt i j) [
   | inl less ↦ omega (arith, rising i j less lt)
   | inr same ↦ (let is : i ≡ j = omega arith in omega (arith, ap (λ k. get_or xs k 0) is))
 ]
 
-pub found_is : (xs : List ℕ) (x : ℕ) (r : Result ℕ ℕ) → IsRising xs → IsBinarySearchResult (λ y. nat_cmp y x) xs r → is_ok r ≡ is_in x xs
+pub found_is : (xs : List ℕ) (x : ℕ) (r : Result ℕ ℕ) → IsNumberRising xs → IsBinarySearchResult (λ y. nat_cmp y x) xs r → is_ok r ≡ is_in x xs
 found_is xs x (Ok i) rising position =
     let found = searched xs x (Ok i) position (le_of_rising xs rising) in
     sym (subst (λ (q : ℕ). is_in q xs ≡ true) found.1 (among xs i found.0))
@@ -39,14 +39,14 @@ joins_end numbers n m begins ends =
 
 -- an edge stands before those from a number to each of these
 abbrev pub IsBehind : ℕ → List ℕ → Edge → Type 0
-IsBehind n ms e = (m : ℕ) → is_in m ms ≡ true → IsBefore e (edge n m)
+IsBehind n ms e = (m : ℕ) → is_in m ms ≡ true → IsEdgeBefore e (edge n m)
 
 pub behind_all : (n : ℕ) (ms : List ℕ) (es : List Edge) → All (BeginsBelow n) es → All (IsBehind n ms) es
 behind_all n ms es low = All-weaker (BeginsBelow n) (IsBehind n ms) (λ e lt m is. inl lt) es low
 
-pub behind_first : (n m : ℕ) (ms : List ℕ) (es : List Edge) → All (IsBehind n (m ∷ ms)) es → All (λ (e : Edge). IsBefore e (edge n m)) es
+pub behind_first : (n m : ℕ) (ms : List ℕ) (es : List Edge) → All (IsBehind n (m ∷ ms)) es → All (λ (e : Edge). IsEdgeBefore e (edge n m)) es
 behind_first n m ms es behind =
-    All-weaker (IsBehind n (m ∷ ms)) (λ (e : Edge). IsBefore e (edge n m)) (λ e is. is m (or_left (m == m) (is_in m ms) (eq-eqb m m refl))) es behind
+    All-weaker (IsBehind n (m ∷ ms)) (λ (e : Edge). IsEdgeBefore e (edge n m)) (λ e is. is m (or_left (m == m) (is_in m ms) (eq-eqb m m refl))) es behind
 
 behind_rest : (n m : ℕ) (ms : List ℕ) (es : List Edge) → All (IsBehind n (m ∷ ms)) es → All (IsBehind n ms) es
 behind_rest n m ms es behind = All-weaker (IsBehind n (m ∷ ms)) (IsBehind n ms) (λ e is k in_ms. is k (or_right (m == k) (is_in k ms) in_ms)) es behind

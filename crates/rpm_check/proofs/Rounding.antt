@@ -1,10 +1,10 @@
 -- The packages of a report, one after the other.
-use Rattle.rpm_check.proofs.Vocabulary.{above, all_above_zero, Database, flat_map, holds, is_there, IsNext, lacks, nat_cmp, Needed, next_above, none_is}
-use Rattle.rpm_check.proofs.Vocabulary.{nothing_above, Package, packages, room, Units, Unmet, unmet, unmet_at, unmet_of}
+use Rattle.rpm_check.proofs.Vocabulary.{above, all_above_zero, Database, flat_map, holds, is_there, IsNext, lacks, nat_cmp, Need, next_above, none_is}
+use Rattle.rpm_check.proofs.Vocabulary.{nothing_above, Package, packages, store_of, Units, Unmet, unmet, unmet_at, unmet_of}
 use Rattle.std.proofs.Common.{◌≡◌, ℕ, ◌<◌, List, [], ◌++◌, Bool, true, false, Option, Some, None, is_some, refl, ap, ◌∙◌}
 use Rattle.std.specs.FinMap as finite
 
-module _ (all : finite.FinMap nat_cmp Package) (is_lacking : Needed → Bool) where
+module _ (all : finite.FinMap nat_cmp Package) (is_lacking : Need → Bool) where
   -- what the packages above a number have
   abbrev pub unmet_above : ℕ → List Unmet
   unmet_above k = flat_map (unmet_of is_lacking) (above k (finite.entries all))
@@ -22,13 +22,13 @@ module _ (all : finite.FinMap nat_cmp Package) (is_lacking : Needed → Bool) wh
   no_round k next = ap (flat_map (unmet_of is_lacking)) (nothing_above all k (λ q lt. none_is (finite.get all q) (next q lt)))
 
 -- no package has the number 0
-above_from_one : (file : Units) (db : Database) → holds 0 db ≡ false → above 0 (finite.entries (packages file (room db)))
-    ≡ finite.entries (packages file (room db))
+above_from_one : (file : Units) (db : Database) → holds 0 db ≡ false → above 0 (finite.entries (packages file (store_of db)))
+    ≡ finite.entries (packages file (store_of db))
 above_from_one file db none =
-    let all = packages file (room db) in
+    let all = packages file (store_of db) in
     all_above_zero all (none_is (finite.get all 0) (is_there file db 0 ∙ none))
 
 pub all_rounds : (file : Units) (db : Database) → holds 0 db ≡ false
-    → unmet_above (packages file (room db)) (lacks (packages file (room db))) 0 ≡ unmet (packages file (room db))
+    → unmet_above (packages file (store_of db)) (lacks (packages file (store_of db))) 0 ≡ unmet (packages file (store_of db))
 unfolding unmet
-all_rounds file db none = ap (flat_map (unmet_of (lacks (packages file (room db))))) (above_from_one file db none)
+all_rounds file db none = ap (flat_map (unmet_of (lacks (packages file (store_of db))))) (above_from_one file db none)

@@ -1,6 +1,6 @@
 -- What the packages give, one after the other.
 use Rattle.rpm_check.proofs.Vocabulary.{above, all_above_zero, all_edges, Bad, Database, edges_from, filter, flat_map, Good, good_numbers, good_of, holds}
-use Rattle.rpm_check.proofs.Vocabulary.{is_good, is_there, IsNext, nat_cmp, next_above, none_is, nothing_above, Package, packages, room, Units}
+use Rattle.rpm_check.proofs.Vocabulary.{is_good, is_there, IsNext, nat_cmp, next_above, none_is, nothing_above, Package, packages, store_of, Units}
 use Rattle.std.proofs.Common.{◌≡◌, ℕ, ◌<◌, List, [], ◌∷◌, ◌++◌, map, true, false, Option, Some, None, is_some, refl, ap, ◌∙◌}
 use Rattle.std.specs.FinMap as finite
 
@@ -25,9 +25,9 @@ module _ {X : Type 0} (all : finite.FinMap nat_cmp Package) (f : ℕ × Package 
 
 -- no package has the number 0
 pub all_turns : {X : Type 0} (file : Units) (db : Database) (f : ℕ × Package → List X) → holds 0 db ≡ false
-    → turns_above (packages file (room db)) f 0 ≡ flat_map f (finite.entries (packages file (room db)))
+    → turns_above (packages file (store_of db)) f 0 ≡ flat_map f (finite.entries (packages file (store_of db)))
 all_turns file db f none =
-    let all = packages file (room db) in
+    let all = packages file (store_of db) in
     ap (flat_map f) (all_above_zero all (none_is (finite.get all 0) (is_there file db 0 ∙ none)))
 
 -- ---- those that can be read

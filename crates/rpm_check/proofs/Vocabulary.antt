@@ -1,9 +1,13 @@
 -- The words of proofs, from one place.
-pub use Rattle.rpm_check.specs.Answers.{Glances, is_broken, is_of_index, IsBroken, IsFaultOfSome}
+pub use Rattle.rpm_check.specs.Answers.{OnlyReadsBoth, is_broken_index, is_index_fault, IsBroken, IsFaultOfSome}
 pub use Rattle.rpm_check.specs.Edges.{edges_from, graph_of, HasEdgesOf, is_edge_between, is_good, needs_of}
 unfoldable pub use Rattle.rpm_check.specs.Edges.{all_edges, givers, good_numbers, is_edge}
-pub use Rattle.rpm_check.specs.Frame.{Asks, IsAskable, Kept, KeptIndex}
-pub use Rattle.rpm_check.specs.Unmet.{answers, gives, is_above, is_file_of, IsNextUnmet, lacks, meets, provided, read_gives, required, unmet_in, unmet_of}
+pub use Rattle.rpm_check.specs.Frame.{CheckQuestion}
+pub use Rattle.rpm_db.specs.Asked.{IsAskable}
+pub use Rattle.rpm_db.specs.Frame.{IsStoreKept, IsIndexKept}
+pub use Rattle.rpm_select.specs.Providing.{answers, gives, is_file_of, provided_ranges}
+pub use Rattle.rpm_check.specs.Unmet.{is_above_pair, IsNextUnmet, lacks, package_meets, read_gives, requirements}
+pub use Rattle.rpm_check.specs.Unmet.{unmet_in, unmet_of}
 pub use Rattle.rpm_check.specs.Unmet.{unmet_read}
 unfoldable pub use Rattle.rpm_check.specs.Unmet.{is_met, unmet, unmet_after}
 pub use Rattle.rpm_check.specs.declared.faults.CheckFault.{CheckFault}
@@ -15,30 +19,30 @@ pub use Rattle.rpm_check.specs.declared.nodes.Node.{Node}
 pub use Rattle.rpm_check.specs.declared.offers.Offer.{Offer}
 pub use Rattle.rpm_check.specs.declared.offers.Range.{Range}
 pub use Rattle.rpm_check.specs.inner.Ends.{BeginsBelow, BeginsUpTo, good_if, good_of, is_end, is_good_at, needs_at}
-pub use Rattle.rpm_check.specs.inner.Faults.{fault_in}
+pub use Rattle.rpm_check.specs.inner.Faults.{check_fault}
 pub use Rattle.rpm_check.specs.inner.GiverMemos.{KnowsGivers, KnowsGiversOn}
 pub use Rattle.rpm_check.specs.inner.Headers.{header_at, header_read}
-pub use Rattle.rpm_check.specs.inner.Memos.{key_order, Knows, KnowsOn, need_of}
-pub use Rattle.rpm_check.specs.inner.Needs.{needed_in}
-pub use Rattle.rpm_check.specs.inner.Nodes.{AreRising, edges_of, numbers_of}
-pub use Rattle.rpm_check.specs.inner.Offers.{AreOffered, given, hits, is_hit, is_named, IsNamed, KnowsNames, KnowsSources}
-pub use Rattle.rpm_check.specs.inner.Offers.{offer_in, offered, range_in, range_of}
-pub use Rattle.rpm_check.specs.inner.Offers.{ranges_given, ranges_in, ranges_read, unranged}
+pub use Rattle.rpm_check.specs.inner.Memos.{requirement_order, Knows, KnowsOn, need_of}
+pub use Rattle.rpm_select.specs.Needs.{needed_in}
+pub use Rattle.rpm_check.specs.inner.Nodes.{AreNodesRising, edges_of, node_numbers}
+pub use Rattle.rpm_check.specs.inner.Offers.{AreOffered, given_ranges, hits, is_hit, is_named, IsNamed, KnowsNames, KnowsSources}
+pub use Rattle.rpm_check.specs.inner.Offers.{offer_in, offered_ranges, range_in, range_of}
+pub use Rattle.rpm_check.specs.inner.Offers.{ranges_given, ranges_in, ranges_read, any_version_of}
 pub use Rattle.rpm_check.specs.inner.Picking.{is_some_of}
 pub use Rattle.rpm_check.specs.inner.Rounds.{IsFirst, unmet_at}
-pub use Rattle.rpm_db.specs.Above.{all_above_zero, both_true, is_below, next_above, none_below, none_is, nothing_above}
+pub use Rattle.rpm_db.specs.laws.Above.{all_above_zero, both_true, is_below, next_above, none_below, none_is, nothing_above}
 pub use Rattle.rpm_db.specs.Database.{Database, holds, IsNext, Keeps, KeepsIndex}
-pub use Rattle.rpm_db.specs.Frame.{room}
-pub use Rattle.rpm_db.specs.FromOne.{from_one}
-pub use Rattle.rpm_db.specs.Own.{header-own}
-pub use Rattle.rpm_db.specs.PackageLaws.{is_there}
+pub use Rattle.rpm_db.specs.Database.{store_of}
+pub use Rattle.rpm_db.specs.laws.FromOne.{from_one}
+pub use Rattle.rpm_db.specs.laws.Own.{header-own}
+pub use Rattle.rpm_db.specs.laws.PackageLaws.{is_there}
 pub use Rattle.rpm_db.specs.State.{above, Bad, Good, Package, package_of, packages, read_as}
-pub use Rattle.rpm_graph.specs.Networks.{edge, HasEdge, IsBefore, IsRising, Joins, Network}
+pub use Rattle.rpm_graph.specs.Networks.{edge, HasEdge, IsEdgeBefore, IsNumberRising, Joins, Network}
 pub use Rattle.rpm_graph.specs.declared.graph.Edge.{Edge}
 pub use Rattle.rpm_header.specs.Header.{Header, header}
 pub use Rattle.rpm_header.specs.declared.form.HeaderFault.{HeaderFault}
 pub use Rattle.rpm_outside.specs.Files.{Files, Units}
-pub use Rattle.rpm_outside.specs.Looks.{Looks, LooksAt}
+pub use Rattle.rpm_outside.specs.Looks.{OnlyReads, OnlyReadsFile}
 pub use Rattle.rpm_outside.specs.declared.disk.File.{File}
 pub use Rattle.rpm_outside.specs.declared.disk.File.TheVariants.{Idx, Pkg}
 pub use Rattle.rpm_select.specs.Candidates.{keys_asked}
@@ -52,12 +56,12 @@ pub use Rattle.rpm_select.specs.declared.picked.Picked.{Picked}
 pub use Rattle.rpm_select.specs.declared.picked.PickFault.{PickFault}
 pub use Rattle.rpm_select.specs.declared.selection.Selection.{Selection}
 pub use Rattle.rpm_select.specs.declared.selection.Selection.TheVariants.{Provides}
-pub use Rattle.rpm_select.specs.inner.Among.{among, not_among}
-pub use Rattle.rpm_select.specs.inner.Keyed.{or_cases, or_left, or_right}
-pub use Rattle.rpm_select.specs.inner.Rising.{AreAbove, next_picked, picks_from_one, Rises, rises, same_members}
+pub use Rattle.rpm_select.specs.laws.Among.{among, not_among}
+pub use Rattle.rpm_select.specs.laws.Keyed.{or_cases, or_left, or_right}
+pub use Rattle.rpm_select.specs.laws.Rising.{AreAbove, next_picked, picks_from_one, Rises, rises, same_members}
 pub use Rattle.rpm_tags.specs.Numbers.{REQUIREFLAGS, REQUIRENAME, REQUIREVERSION}
 pub use Rattle.rpm_tags.specs.Value.{numbers_in, texts_in}
-pub use Rattle.rpm_tags.specs.Wanted.{beside, has_file, listed, Needed}
+pub use Rattle.rpm_tags.specs.Wanted.{beside, has_file, list_or_empty, Need}
 unfoldable pub use Rattle.rpm_tags.specs.Wanted.{dependencies}
 pub use Rattle.rpm_tags.specs.declared.kind.Kind.{Kind}
 pub use Rattle.rpm_tags.specs.declared.needed.Tags.{Tags}

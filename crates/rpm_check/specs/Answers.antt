@@ -3,8 +3,8 @@ use Rattle.std.specs.Prelude.{◌≡◌, ℕ, ◌≤◌, List, Bool, true, false
 use Rattle.rpm_outside.specs.declared.disk.Disk as disk
 use Rattle.rpm_outside.specs.declared.disk.File.{File}
 use Rattle.rpm_outside.specs.declared.disk.File.TheVariants.{Log}
-use Rattle.rpm_outside.specs.Crash.{Untouched}
-use Rattle.rpm_outside.specs.Files.{Units, Files}
+use Rattle.rpm_outside.specs.Crash.{IsUntouched}
+use Rattle.rpm_outside.specs.Files.{Units}
 use Rattle.rpm_tags.specs.declared.kind.Kind.{Kind}
 use Rattle.rpm_tags.specs.Kinds.{code_of}
 use Rattle.rpm_db.specs.Answers.{key_chain}
@@ -22,19 +22,19 @@ IsBroken idx DiskFault = Unit {0}
 IsBroken idx NoMemory = Unit {0}
 
 -- an index is said to be broken
-abbrev pub is_of_index : CheckFault → Bool
-is_of_index (BadIndex unit) = true
-is_of_index DiskFault = false
-is_of_index NoMemory = false
+abbrev pub is_index_fault : CheckFault → Bool
+is_index_fault (BadIndex unit) = true
+is_index_fault DiskFault = false
+is_index_fault NoMemory = false
 
 -- a call answers that
-abbrev pub is_broken : {X : Type 0} → Result X CheckFault → Bool
-is_broken (Ok x) = false
-is_broken (Err fault) = is_of_index fault
+abbrev pub is_broken_index : {X : Type 0} → Result X CheckFault → Bool
+is_broken_index (Ok x) = false
+is_broken_index (Err fault) = is_index_fault fault
 
 -- the files, their images and the moment stay, and of Hlog.db nothing is read
-pub record Glances {D : Type 0} (g : disk.Ghosts D) (old new : D) : Type 0 where
-  pub untouched : IsTrue g.tells → Untouched (g.files old) (g.files new) (g.left_since old) (g.left_since new)
+pub record OnlyReadsBoth {D : Type 0} (g : disk.Ghosts D) (old new : D) : Type 0 where
+  pub untouched : IsTrue g.tells → IsUntouched (g.files old) (g.files new) (g.left_since old) (g.left_since new)
   pub moment_stays : g.moment new ≡ g.moment old
   pub no_less : (f : File) → g.bytes_read old f ≤ g.bytes_read new f
   pub log : g.bytes_read new Log ≤ g.bytes_read old Log

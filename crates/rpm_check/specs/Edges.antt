@@ -1,35 +1,36 @@
 -- Which packages require which.
-use Rattle.std.specs.Prelude.{◌≡◌, ◌↔◌, ℕ, List, [], map, filter, Bool, true, false, not, ◌&&◌, ◌==◌, Option, Some, Result, Ok, Err}
+use Rattle.std.specs.Prelude.{◌≡◌, ◌↔◌, ℕ, List, [], map, filter, Bool, true, false, not, ◌&&◌, ◌==◌, Option, Some}
+use Rattle.std.specs.Prelude.{Result, Ok, Err}
 use Rattle.std.specs.List.{list_any, flat_map}
 use Rattle.std.specs.Ordering.{nat_cmp}
 use Rattle.std.specs.FinMap.{FinMap, entries, get}
 use Rattle.rpm_header.specs.declared.form.HeaderFault.{HeaderFault}
 use Rattle.rpm_header.specs.Header.{Header, header}
-use Rattle.rpm_tags.specs.Wanted.{Needed}
+use Rattle.rpm_tags.specs.Wanted.{Need}
 use Rattle.rpm_db.specs.State.{Package, Good, Bad}
 use Rattle.rpm_graph.specs.declared.graph.Edge.{Edge}
 use Rattle.rpm_graph.specs.Networks.{Network, HasEdge, edge}
-use Rattle.rpm_check.specs.Unmet.{required, meets}
+use Rattle.rpm_check.specs.Unmet.{requirements, package_meets}
 
 -- the numbers of the packages that meet a requirement, rising
-unfoldable pub givers : FinMap nat_cmp Package → Needed → List ℕ
-givers packages need = map (λ e. e.0) (filter (meets need) (entries packages))
+unfoldable pub givers : FinMap nat_cmp Package → Need → List ℕ
+givers packages need = map (λ e. e.0) (filter (package_meets need) (entries packages))
 
 -- ---- one edge
 
 -- the requirements of bytes that may be no header
-abbrev pub needs_read : Result Header HeaderFault → List Needed
-needs_read (Ok h) = required h
+abbrev pub needs_read : Result Header HeaderFault → List Need
+needs_read (Ok h) = requirements h
 needs_read (Err fault) = []
 
 -- the requirements of a package; none where it can't be read
-abbrev pub needs_of : Package → List Needed
+abbrev pub needs_of : Package → List Need
 needs_of (Good bytes) = needs_read (header bytes)
 needs_of Bad = []
 
 -- a requirement of one package is met by another alone
 abbrev pub is_edge_between : ℕ → Option Package → ℕ → Option Package → Bool
-is_edge_between n (Some p) m (Some q) = not (n == m) && list_any (λ need. meets need (m, q)) (needs_of p)
+is_edge_between n (Some p) m (Some q) = not (n == m) && list_any (λ need. package_meets need (m, q)) (needs_of p)
 is_edge_between n p m q = false
 
 -- n requires what m gives, and they are different

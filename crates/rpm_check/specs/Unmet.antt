@@ -1,37 +1,38 @@
 -- Which requirements no package meets.
-use Rattle.std.specs.Prelude.{◌≡◌, ℕ, List, [], ◌∷◌, map, filter, length, codes, Bool, false, not, ◌&&◌, ◌||◌, ◌==◌, nat_eq, nat_lt, Option, Some, None, Result, Ok, Err}
+use Rattle.std.specs.Prelude.{◌≡◌, ℕ, List, [], ◌∷◌, map, filter, length, codes, Bool, false, not, ◌&&◌, ◌||◌, ◌==◌}
+use Rattle.std.specs.Prelude.{nat_eq, nat_lt, Option, Some, None, Result, Ok, Err}
 use Rattle.std.specs.List.{list_any, flat_map, zip, range_with_len, starts_with}
 use Rattle.std.specs.Ordering.{nat_cmp}
 use Rattle.std.specs.FinMap.{FinMap, entries}
 use Rattle.rpm_header.specs.declared.form.HeaderFault.{HeaderFault}
 use Rattle.rpm_header.specs.Header.{Header, header}
 use Rattle.rpm_tags.specs.Numbers.{REQUIRENAME, REQUIREFLAGS, REQUIREVERSION}
-use Rattle.rpm_tags.specs.Wanted.{Needed, dependencies}
+use Rattle.rpm_tags.specs.Wanted.{Need, dependencies}
 use Rattle.rpm_db.specs.State.{Package, Good, Bad}
-pub use Rattle.rpm_select.specs.Providing.{answers, gives, is_file_of, provided}
+use Rattle.rpm_select.specs.Providing.{gives}
 use Rattle.rpm_check.specs.declared.list.Unmet.{Unmet}
 
 -- ---- one requirement and one header
 
 -- what a header requires
-abbrev pub required : Header → List Needed
-required h = dependencies (record { names = REQUIRENAME; flags = REQUIREFLAGS; versions = REQUIREVERSION }) h
+abbrev pub requirements : Header → List Need
+requirements h = dependencies (record { names = REQUIRENAME; flags = REQUIREFLAGS; versions = REQUIREVERSION }) h
 
 -- ---- one requirement and all packages
 
 -- bytes give what is needed when they are a header that gives it
-abbrev pub read_gives : Needed → Result Header HeaderFault → Bool
+abbrev pub read_gives : Need → Result Header HeaderFault → Bool
 read_gives need (Ok h) = gives need h
 read_gives need (Err fault) = false
 
 -- a package that can't be read gives nothing
-abbrev pub meets : Needed → ℕ × Package → Bool
-meets need (n, Good bytes) = read_gives need (header bytes)
-meets need (n, Bad) = false
+abbrev pub package_meets : Need → ℕ × Package → Bool
+package_meets need (n, Good bytes) = read_gives need (header bytes)
+package_meets need (n, Bad) = false
 
 -- some package meets a requirement
-unfoldable pub is_met : FinMap nat_cmp Package → Needed → Bool
-is_met packages need = list_any (meets need) (entries packages)
+unfoldable pub is_met : FinMap nat_cmp Package → Need → Bool
+is_met packages need = list_any (package_meets need) (entries packages)
 
 -- ---- all requirements
 
@@ -40,28 +41,28 @@ abbrev pub is_passed_over : List ℕ → Bool
 is_passed_over name = starts_with nat_eq name (codes "rpmlib(") || starts_with nat_eq name (codes "(")
 
 -- a requirement is looked at, and no package meets it
-abbrev pub lacks : FinMap nat_cmp Package → Needed → Bool
+abbrev pub lacks : FinMap nat_cmp Package → Need → Bool
 lacks packages need = not (is_passed_over need.name) && not (is_met packages need)
 
 -- each with its place, from this one on
-abbrev pub placed : List Needed → ℕ → List (Needed × ℕ)
-placed needs place = zip needs (range_with_len place (length needs))
+abbrev pub placed_needs : List Need → ℕ → List (Need × ℕ)
+placed_needs needs place = zip needs (range_with_len place (length needs))
 
 -- the number of its package and its place there
-abbrev pub at_place : ℕ → Needed × ℕ → Unmet
+abbrev pub at_place : ℕ → Need × ℕ → Unmet
 at_place n e = record { number = n; place = e.1 }
 
 -- a package's requirements, from this place on, that are lacking
-abbrev pub unmet_in : (Needed → Bool) → ℕ → List Needed → ℕ → List Unmet
-unmet_in is_lacking n needs place = map (at_place n) (filter (λ e. is_lacking e.0) (placed needs place))
+abbrev pub unmet_in : (Need → Bool) → ℕ → List Need → ℕ → List Unmet
+unmet_in is_lacking n needs place = map (at_place n) (filter (λ e. is_lacking e.0) (placed_needs needs place))
 
 -- a package's bytes have these unmet requirements: none where they are no header
-abbrev pub unmet_read : (Needed → Bool) → ℕ → Result Header HeaderFault → List Unmet
-unmet_read is_lacking n (Ok h) = unmet_in is_lacking n (required h) 0
+abbrev pub unmet_read : (Need → Bool) → ℕ → Result Header HeaderFault → List Unmet
+unmet_read is_lacking n (Ok h) = unmet_in is_lacking n (requirements h) 0
 unmet_read is_lacking n (Err fault) = []
 
 -- a package has these unmet requirements: none where it is Bad
-abbrev pub unmet_of : (Needed → Bool) → ℕ × Package → List Unmet
+abbrev pub unmet_of : (Need → Bool) → ℕ × Package → List Unmet
 unmet_of is_lacking (n, Good bytes) = unmet_read is_lacking n (header bytes)
 unmet_of is_lacking (n, Bad) = []
 
@@ -72,12 +73,12 @@ unmet packages = flat_map (unmet_of (lacks packages)) (entries packages)
 -- ---- one after the other
 
 -- a pair of a number and a place stands above (n, i), by number and then by place
-abbrev pub is_above : ℕ → ℕ → Unmet → Bool
-is_above n i u = nat_lt n u.number || (u.number == n && nat_lt i u.place)
+abbrev pub is_above_pair : ℕ → ℕ → Unmet → Bool
+is_above_pair n i u = nat_lt n u.number || (u.number == n && nat_lt i u.place)
 
 -- the lacking ones above (n, i)
 unfoldable pub unmet_after : FinMap nat_cmp Package → ℕ → ℕ → List Unmet
-unmet_after packages n i = filter (is_above n i) (unmet packages)
+unmet_after packages n i = filter (is_above_pair n i) (unmet packages)
 
 -- the least one above (n, i), after which those above it stand; None says that there is none
 abbrev pub IsNextUnmet : FinMap nat_cmp Package → ℕ → ℕ → Option Unmet → Type 0

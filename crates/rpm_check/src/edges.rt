@@ -1,7 +1,7 @@
 //! The graph of nodes.
 
 ghost use Rattle.std.specs.Prelude.{◌≡◌, ◌++◌, [], ◌∷◌, map, filter, All, true, IfOk, OnOk, OnErr};
-ghost use Rattle.rpm_check.specs.Prelude.{AreRising, BeginsBelow, BeginsUpTo, edge, edges_of, flat_map, is_end, is_in, IsBefore, IsStrictlyIncreasing, numbers_of};
+ghost use Rattle.rpm_check.specs.Prelude.{AreNodesRising, BeginsBelow, BeginsUpTo, edge, edges_of, flat_map, is_end, is_in, IsEdgeBefore, IsStrictlyIncreasing, node_numbers};
 
 use crate::nodes::Node;
 use rpm_graph::Graph;
@@ -24,7 +24,7 @@ fn is_end(graph: &Graph, from: u32, to: u32) -> bool
 /// Adds an edge from one number to another, where that can be its end. `Err` where memory is refused.
 fn push_edge(graph: &mut Graph, from: u32, to: u32) -> Result<(), AllocError>
     requires begins { is_in from graph.old.numbers ≡ true }
-    requires behind { All (λ e. IsBefore e (edge from to)) graph.old.edges }
+    requires behind { All (λ e. IsEdgeBefore e (edge from to)) graph.old.edges }
     ensures numbers { graph.new.numbers ≡ graph.old.numbers }
     ensures told { OnOk result (graph.new.edges ≡ graph.old.edges ++ map (edge from) (filter (is_end graph.old.numbers from) (to ∷ []))) }
     ensures refused { OnErr result (graph.new.edges ≡ graph.old.edges) }
@@ -53,10 +53,10 @@ fn push_edges(graph: &mut Graph, from: u32, ends: &[u32]) -> Result<(), AllocErr
 
 /// Adds the numbers of nodes to a graph without numbers.
 fn push_numbers(graph: &mut Graph, nodes: &[Node]) -> Result<(), AllocError>
-    requires rising { AreRising nodes.now }
+    requires rising { AreNodesRising nodes.now }
     requires none { graph.old.numbers ≡ [] }
     ensures edges { OnOk result (graph.new.edges ≡ graph.old.edges) }
-    ensures told { OnOk result (graph.new.numbers ≡ numbers_of nodes.now) }
+    ensures told { OnOk result (graph.new.numbers ≡ node_numbers nodes.now) }
 {
     for node in nodes {
         graph.push_number(node.number)?;
@@ -66,8 +66,8 @@ fn push_numbers(graph: &mut Graph, nodes: &[Node]) -> Result<(), AllocError>
 
 /// Adds the edges of nodes to a graph that has their numbers.
 fn push_all_edges(graph: &mut Graph, nodes: &[Node]) -> Result<(), AllocError>
-    requires rising { AreRising nodes.now }
-    requires numbers { graph.old.numbers ≡ numbers_of nodes.now }
+    requires rising { AreNodesRising nodes.now }
+    requires numbers { graph.old.numbers ≡ node_numbers nodes.now }
     requires none { graph.old.edges ≡ [] }
     ensures numbers { OnOk result (graph.new.numbers ≡ graph.old.numbers) }
     ensures told { OnOk result (graph.new.edges ≡ flat_map (edges_of graph.old.numbers) nodes.now) }
@@ -80,9 +80,9 @@ fn push_all_edges(graph: &mut Graph, nodes: &[Node]) -> Result<(), AllocError>
 
 /// The graph of nodes. `Err` where memory is refused.
 pub fn graph_of(alloc: Global, nodes: &[Node]) -> Result<Graph, AllocError>
-    requires rising { AreRising nodes.now }
-    ensures numbers { IfOk result (λ g. g.numbers ≡ numbers_of nodes.now) }
-    ensures edges { IfOk result (λ g. g.edges ≡ flat_map (edges_of (numbers_of nodes.now)) nodes.now) }
+    requires rising { AreNodesRising nodes.now }
+    ensures numbers { IfOk result (λ g. g.numbers ≡ node_numbers nodes.now) }
+    ensures edges { IfOk result (λ g. g.edges ≡ flat_map (edges_of (node_numbers nodes.now)) nodes.now) }
 {
     let mut graph = Graph::new(alloc);
     push_numbers(&mut graph, nodes)?;

@@ -1,7 +1,7 @@
 //! Where the edges from one package end.
 
 ghost use Rattle.std.specs.Prelude.{◌≡◌, ◌++◌, ℕ, IsTrue, is_some, Err, IfOk, IfSome, OnOk, OnErr};
-ghost use Rattle.rpm_check.specs.Prelude.{Asks, flat_map, givers, HasRows, is_good_at, is_in, IsAskable, IsStrictlyIncreasing, KnowsGiversOn, needed_in, needs_at, packages_in, required};
+ghost use Rattle.rpm_check.specs.Prelude.{CheckQuestion, flat_map, givers, HasKeptRows, is_good_at, is_in, IsAskable, IsStrictlyIncreasing, KnowsGiversOn, needed_in, needs_at, packages_in, requirements};
 ghost use Rattle.std.specs.FinMap as finite;
 
 use crate::faults::CheckFault;
@@ -37,10 +37,10 @@ fn push_givers<D: Disk>(
 ) -> Result<(), CheckFault>
     requires asked { IsAskable D.Disk disk.old db.now }
     requires remembers { KnowsGiversOn D.Disk disk.old db.now memo.old }
-    ensures told { OnOk result (IsTrue D.tells → HasRows D.Disk disk.old db.now
+    ensures told { OnOk result (IsTrue D.tells → HasKeptRows D.Disk disk.old db.now
         → ends.new.items ≡ ends.old.items ++ givers (packages_in D.Disk disk.old db.now) (needed_in needed.now)) }
     ensures remembered { KnowsGiversOn D.Disk disk.old db.now memo.new }
-    ensures asks { Asks D.Disk disk.old disk.new db.now result }
+    ensures asks { CheckQuestion D.Disk disk.old disk.new db.now result }
 {
     let key = Requirement::of(alloc, needed)?;
     if let Some(known) = memo.get(&key) {
@@ -63,11 +63,11 @@ fn push_ends<D: Disk>(
 ) -> Result<(), CheckFault>
     requires asked { IsAskable D.Disk disk.old db.now }
     requires remembers { KnowsGiversOn D.Disk disk.old db.now memo.old }
-    ensures told { OnOk result (IsTrue D.tells → HasRows D.Disk disk.old db.now
+    ensures told { OnOk result (IsTrue D.tells → HasKeptRows D.Disk disk.old db.now
         → ends.new.items
-        ≡ ends.old.items ++ flat_map (givers (packages_in D.Disk disk.old db.now)) (required view.now)) }
+        ≡ ends.old.items ++ flat_map (givers (packages_in D.Disk disk.old db.now)) (requirements view.now)) }
     ensures remembered { KnowsGiversOn D.Disk disk.old db.now memo.new }
-    ensures asks { Asks D.Disk disk.old disk.new db.now result }
+    ensures asks { CheckQuestion D.Disk disk.old disk.new db.now result }
 {
     let mut left = dependencies(view, REQUIRES);
     while let Some(needed) = left.next() {
@@ -90,11 +90,11 @@ fn push_ends_of<D: Disk>(
     requires asked { IsAskable D.Disk disk.old db.now }
     requires remembers { KnowsGiversOn D.Disk disk.old db.now memo.old }
     ensures good { IfOk result (λ good. IsTrue D.tells → good ≡ is_good_at (finite.get (packages_in D.Disk disk.old db.now) number)) }
-    ensures told { OnOk result (IsTrue D.tells → HasRows D.Disk disk.old db.now
+    ensures told { OnOk result (IsTrue D.tells → HasKeptRows D.Disk disk.old db.now
         → ends.new.items ≡ ends.old.items ++ flat_map (givers (packages_in D.Disk disk.old db.now))
         (needs_at (finite.get (packages_in D.Disk disk.old db.now) number))) }
     ensures remembered { KnowsGiversOn D.Disk disk.old db.now memo.new }
-    ensures asks { Asks D.Disk disk.old disk.new db.now result }
+    ensures asks { CheckQuestion D.Disk disk.old disk.new db.now result }
 {
     match read_header(alloc, db, disk, number, room)? {
         Some(view) => {
@@ -119,11 +119,11 @@ pub fn ends_of<D: Disk>(
     requires remembers { KnowsGiversOn D.Disk disk.old db.now memo.old }
     ensures good { IfOk result (λ found. IsTrue D.tells → is_some found ≡ is_good_at (finite.get (packages_in D.Disk disk.old db.now) number)) }
     ensures rising { IfOk result (λ found. IfSome found (λ ends. IsStrictlyIncreasing ends.items)) }
-    ensures told { IfOk result (λ found. IfSome found (λ ends. IsTrue D.tells → HasRows D.Disk disk.old db.now
+    ensures told { IfOk result (λ found. IfSome found (λ ends. IsTrue D.tells → HasKeptRows D.Disk disk.old db.now
         → (m : ℕ) → is_in m ends.items ≡ is_in m (flat_map (givers (packages_in D.Disk disk.old db.now))
         (needs_at (finite.get (packages_in D.Disk disk.old db.now) number))))) }
     ensures remembered { KnowsGiversOn D.Disk disk.old db.now memo.new }
-    ensures asks { Asks D.Disk disk.old disk.new db.now result }
+    ensures asks { CheckQuestion D.Disk disk.old disk.new db.now result }
 {
     let mut ends = Vec::new(alloc);
     let good = push_ends_of(alloc, db, disk, memo, number, room, &mut ends)?;

@@ -2,7 +2,7 @@
 
 ghost use Rattle.std.specs.Prelude.{◌≡◌};
 ghost use Rattle.rpm_select.specs.Picks as picks;
-ghost use Rattle.rpm_check.specs.Prelude.{fault_in, NoMemory};
+ghost use Rattle.rpm_check.specs.Prelude.{check_fault, NoMemory};
 
 use rpm_select::PickFault;
 use std::alloc::{AllocError, AllocFailed};
@@ -24,7 +24,7 @@ pub enum CheckFault {
 
 /// What stops a report where a picker fails.
 impl From<PickFault> for CheckFault {
-    ghost from_gives = { λ fault e. e ≡ fault_in fault };
+    ghost from_gives = { λ fault e. e ≡ check_fault fault };
 
     fn from(fault: PickFault) -> CheckFault {
         match fault {

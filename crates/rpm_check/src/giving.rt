@@ -1,7 +1,7 @@
 //! Which packages meet a requirement.
 
 ghost use Rattle.std.specs.Prelude.{◌≡◌, map, IsTrue, IfOk};
-ghost use Rattle.rpm_check.specs.Prelude.{Asks, givers, HasRows, IsAskable, needed_in, packages_in, picks, Recalls};
+ghost use Rattle.rpm_check.specs.Prelude.{CheckQuestion, givers, HasKeptRows, IsAskable, needed_in, packages_in, picks, Recalls};
 
 use crate::faults::CheckFault;
 use rpm_db::Db;
@@ -19,12 +19,12 @@ fn numbers_picked<D: Disk>(
     selection: &Selection<'_>,
 ) -> Result<Vec<u32>, CheckFault>
     requires asked { IsAskable D.Disk disk.old db.now }
-    ensures told { IfOk result (λ numbers. IsTrue D.tells → HasRows D.Disk disk.old db.now
+    ensures told { IfOk result (λ numbers. IsTrue D.tells → HasKeptRows D.Disk disk.old db.now
         → Recalls (packages_in D.Disk disk.old db.now) recent.old
         → numbers.items ≡ map (λ e. e.0) (picks (packages_in D.Disk disk.old db.now) selection.now)) }
     ensures recalls { IsTrue D.tells → Recalls (packages_in D.Disk disk.old db.now) recent.old
         → Recalls (packages_in D.Disk disk.old db.now) recent.new }
-    ensures asks { Asks D.Disk disk.old disk.new db.now result }
+    ensures asks { CheckQuestion D.Disk disk.old disk.new db.now result }
 {
     let picker = Picker::new(alloc, db, disk, selection)?;
     let mut numbers = Vec::new(alloc);
@@ -50,12 +50,12 @@ pub fn givers<D: Disk>(
     needed: &Dependency<'_>,
 ) -> Result<Vec<u32>, CheckFault>
     requires asked { IsAskable D.Disk disk.old db.now }
-    ensures told { IfOk result (λ numbers. IsTrue D.tells → HasRows D.Disk disk.old db.now
+    ensures told { IfOk result (λ numbers. IsTrue D.tells → HasKeptRows D.Disk disk.old db.now
         → Recalls (packages_in D.Disk disk.old db.now) recent.old
         → numbers.items ≡ givers (packages_in D.Disk disk.old db.now) (needed_in needed.now)) }
     ensures recalls { IsTrue D.tells → Recalls (packages_in D.Disk disk.old db.now) recent.old
         → Recalls (packages_in D.Disk disk.old db.now) recent.new }
-    ensures asks { Asks D.Disk disk.old disk.new db.now result }
+    ensures asks { CheckQuestion D.Disk disk.old disk.new db.now result }
 {
     let wanted = Capability::of_range(needed.name, needed.flags, needed.version);
     numbers_picked(alloc, db, disk, recent, &Selection::Provides(wanted))

@@ -1,7 +1,7 @@
 //! The requirements of one package that are lacking.
 
 ghost use Rattle.std.specs.Prelude.{◌≡◌, ◌++◌, length, IsTrue, IfOk, OnOk};
-ghost use Rattle.rpm_check.specs.Prelude.{Asks, HasRows, is_met, is_passed_over, IsAskable, KnowsOn, lacks, needed_in, packages_in, required, unmet_in};
+ghost use Rattle.rpm_check.specs.Prelude.{CheckQuestion, HasKeptRows, is_met, is_passed_over, IsAskable, KnowsOn, lacks, needed_in, packages_in, requirements, unmet_in};
 
 use crate::faults::CheckFault;
 use crate::list::Unmet;
@@ -36,10 +36,10 @@ fn is_met_once<D: Disk>(
 ) -> Result<bool, CheckFault>
     requires asked { IsAskable D.Disk disk.old db.now }
     requires remembers { KnowsOn D.Disk disk.old db.now memo.old }
-    ensures told { IfOk result (λ met. IsTrue D.tells → HasRows D.Disk disk.old db.now
+    ensures told { IfOk result (λ met. IsTrue D.tells → HasKeptRows D.Disk disk.old db.now
         → met ≡ is_met (packages_in D.Disk disk.old db.now) (needed_in needed.now)) }
     ensures remembered { KnowsOn D.Disk disk.old db.now memo.new }
-    ensures asks { Asks D.Disk disk.old disk.new db.now result }
+    ensures asks { CheckQuestion D.Disk disk.old disk.new db.now result }
 {
     let key = Requirement::of(alloc, needed)?;
     if let Some(known) = memo.get(&key) {
@@ -60,10 +60,10 @@ pub fn lacks<D: Disk>(
 ) -> Result<bool, CheckFault>
     requires asked { IsAskable D.Disk disk.old db.now }
     requires remembers { KnowsOn D.Disk disk.old db.now memo.old }
-    ensures told { IfOk result (λ b. IsTrue D.tells → HasRows D.Disk disk.old db.now
+    ensures told { IfOk result (λ b. IsTrue D.tells → HasKeptRows D.Disk disk.old db.now
         → b ≡ lacks (packages_in D.Disk disk.old db.now) (needed_in needed.now)) }
     ensures remembered { KnowsOn D.Disk disk.old db.now memo.new }
-    ensures asks { Asks D.Disk disk.old disk.new db.now result }
+    ensures asks { CheckQuestion D.Disk disk.old disk.new db.now result }
 {
     if is_passed_over(needed.name) {
         return Ok(false);
@@ -74,7 +74,7 @@ pub fn lacks<D: Disk>(
 
 /// How many requirements a package has.
 pub fn required_count(view: &View<'_>) -> u32
-    ensures { result ≡ length (required view.now) }
+    ensures { result ≡ length (requirements view.now) }
 {
     match texts_in(view, numbers::REQUIRENAME) {
         None => 0,
@@ -94,11 +94,11 @@ pub fn push_lacking<D: Disk>(
 ) -> Result<(), CheckFault>
     requires asked { IsAskable D.Disk disk.old db.now }
     requires remembers { KnowsOn D.Disk disk.old db.now memo.old }
-    ensures told { OnOk result (IsTrue D.tells → HasRows D.Disk disk.old db.now
+    ensures told { OnOk result (IsTrue D.tells → HasKeptRows D.Disk disk.old db.now
         → found.new.items ≡ found.old.items ++ unmet_in (lacks (packages_in D.Disk disk.old db.now)) number
-        (required view.now) 0) }
+        (requirements view.now) 0) }
     ensures remembered { KnowsOn D.Disk disk.old db.now memo.new }
-    ensures asks { Asks D.Disk disk.old disk.new db.now result }
+    ensures asks { CheckQuestion D.Disk disk.old disk.new db.now result }
 {
     let mut left = dependencies(view, REQUIRES);
     for place in 0..required_count(view) {

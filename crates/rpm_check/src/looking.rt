@@ -1,7 +1,7 @@
 //! Requirements that are looked up, name by name.
 
 ghost use Rattle.std.specs.Prelude.{◌≡◌, ◌==◌, false, IsTrue, IfOk, IfSome, slice_index};
-ghost use Rattle.rpm_check.specs.Prelude.{AreOffered, Asks, FinMap, givers, HasRows, is_met, IsAskable, KnowsNames, KnowsSources, nat_cmp, needed_in, Package, packages_in};
+ghost use Rattle.rpm_check.specs.Prelude.{AreOffered, CheckQuestion, FinMap, givers, HasKeptRows, is_met, IsAskable, KnowsNames, KnowsSources, nat_cmp, needed_in, Package, packages_in};
 
 use crate::faults::CheckFault;
 use crate::giving::givers;
@@ -42,12 +42,12 @@ fn offers_again<D: Disk>(
     name: &[u8],
 ) -> Result<Option<Vec<Offer>>, CheckFault>
     requires asked { IsAskable D.Disk disk.old db.now }
-    ensures told { IfOk result (λ found. IsTrue D.tells → HasRows D.Disk disk.old db.now → KnowsNames (packages_in D.Disk disk.old db.now) names.old
+    ensures told { IfOk result (λ found. IsTrue D.tells → HasKeptRows D.Disk disk.old db.now → KnowsNames (packages_in D.Disk disk.old db.now) names.old
         → AreOffered (packages_in D.Disk disk.old db.now) name.now found) }
     ensures plain { IfOk result (λ found. IfSome found (λ _. (slice_index name.now 0 == 47) ≡ false)) }
-    ensures knows { IsTrue D.tells → HasRows D.Disk disk.old db.now → KnowsNames (packages_in D.Disk disk.old db.now) names.old
+    ensures knows { IsTrue D.tells → HasKeptRows D.Disk disk.old db.now → KnowsNames (packages_in D.Disk disk.old db.now) names.old
         → KnowsNames (packages_in D.Disk disk.old db.now) names.new }
-    ensures asks { Asks D.Disk disk.old disk.new db.now result }
+    ensures asks { CheckQuestion D.Disk disk.old disk.new db.now result }
 {
     if is_path(name) || !names.is_again(name) {
         return Ok(None);
@@ -71,12 +71,12 @@ pub fn is_met_by_name<D: Disk>(
     needed: &Dependency<'_>,
 ) -> Result<bool, CheckFault>
     requires asked { IsAskable D.Disk disk.old db.now }
-    ensures told { IfOk result (λ met. IsTrue D.tells → HasRows D.Disk disk.old db.now
+    ensures told { IfOk result (λ met. IsTrue D.tells → HasKeptRows D.Disk disk.old db.now
         → KnowsSources (packages_in D.Disk disk.old db.now) sources.old
         → met ≡ is_met (packages_in D.Disk disk.old db.now) (needed_in needed.now)) }
-    ensures knows { IsTrue D.tells → HasRows D.Disk disk.old db.now → KnowsSources (packages_in D.Disk disk.old db.now) sources.old
+    ensures knows { IsTrue D.tells → HasKeptRows D.Disk disk.old db.now → KnowsSources (packages_in D.Disk disk.old db.now) sources.old
         → KnowsSources (packages_in D.Disk disk.old db.now) sources.new }
-    ensures asks { Asks D.Disk disk.old disk.new db.now result }
+    ensures asks { CheckQuestion D.Disk disk.old disk.new db.now result }
 {
     match offers_again(alloc, db, disk, &mut sources.names, needed.name)? {
         Some(offers) => {
@@ -98,12 +98,12 @@ pub fn givers_by_name<D: Disk>(
     needed: &Dependency<'_>,
 ) -> Result<Vec<u32>, CheckFault>
     requires asked { IsAskable D.Disk disk.old db.now }
-    ensures told { IfOk result (λ numbers. IsTrue D.tells → HasRows D.Disk disk.old db.now
+    ensures told { IfOk result (λ numbers. IsTrue D.tells → HasKeptRows D.Disk disk.old db.now
         → KnowsSources (packages_in D.Disk disk.old db.now) sources.old
         → numbers.items ≡ givers (packages_in D.Disk disk.old db.now) (needed_in needed.now)) }
-    ensures knows { IsTrue D.tells → HasRows D.Disk disk.old db.now → KnowsSources (packages_in D.Disk disk.old db.now) sources.old
+    ensures knows { IsTrue D.tells → HasKeptRows D.Disk disk.old db.now → KnowsSources (packages_in D.Disk disk.old db.now) sources.old
         → KnowsSources (packages_in D.Disk disk.old db.now) sources.new }
-    ensures asks { Asks D.Disk disk.old disk.new db.now result }
+    ensures asks { CheckQuestion D.Disk disk.old disk.new db.now result }
 {
     match offers_again(alloc, db, disk, &mut sources.names, needed.name)? {
         Some(offers) => {

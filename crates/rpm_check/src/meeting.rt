@@ -1,7 +1,7 @@
 //! Whether one requirement is met.
 
 ghost use Rattle.std.specs.Prelude.{◌≡◌, IsTrue, IfOk};
-ghost use Rattle.rpm_check.specs.Prelude.{Asks, HasRows, is_met, is_some_of, IsAskable, needed_in, packages_in, picks, Recalls};
+ghost use Rattle.rpm_check.specs.Prelude.{CheckQuestion, HasKeptRows, is_met, is_some_of, IsAskable, needed_in, packages_in, picks, Recalls};
 
 use crate::faults::CheckFault;
 use rpm_db::Db;
@@ -19,12 +19,12 @@ fn picks_any<D: Disk>(
     selection: &Selection<'_>,
 ) -> Result<bool, CheckFault>
     requires asked { IsAskable D.Disk disk.old db.now }
-    ensures told { IfOk result (λ any. IsTrue D.tells → HasRows D.Disk disk.old db.now
+    ensures told { IfOk result (λ any. IsTrue D.tells → HasKeptRows D.Disk disk.old db.now
         → Recalls (packages_in D.Disk disk.old db.now) recent.old
         → any ≡ is_some_of (picks (packages_in D.Disk disk.old db.now) selection.now)) }
     ensures recalls { IsTrue D.tells → Recalls (packages_in D.Disk disk.old db.now) recent.old
         → Recalls (packages_in D.Disk disk.old db.now) recent.new }
-    ensures asks { Asks D.Disk disk.old disk.new db.now result }
+    ensures asks { CheckQuestion D.Disk disk.old disk.new db.now result }
 {
     let picker = Picker::new(alloc, db, disk, selection)?;
     let picked = picker.next_number_after(alloc, db, disk, selection, recent, 0)?;
@@ -52,12 +52,12 @@ pub fn is_met<D: Disk>(
     needed: &Dependency<'_>,
 ) -> Result<bool, CheckFault>
     requires asked { IsAskable D.Disk disk.old db.now }
-    ensures told { IfOk result (λ met. IsTrue D.tells → HasRows D.Disk disk.old db.now
+    ensures told { IfOk result (λ met. IsTrue D.tells → HasKeptRows D.Disk disk.old db.now
         → Recalls (packages_in D.Disk disk.old db.now) recent.old
         → met ≡ is_met (packages_in D.Disk disk.old db.now) (needed_in needed.now)) }
     ensures recalls { IsTrue D.tells → Recalls (packages_in D.Disk disk.old db.now) recent.old
         → Recalls (packages_in D.Disk disk.old db.now) recent.new }
-    ensures asks { Asks D.Disk disk.old disk.new db.now result }
+    ensures asks { CheckQuestion D.Disk disk.old disk.new db.now result }
 {
     let wanted = Capability::of_range(needed.name, needed.flags, needed.version);
     picks_any(alloc, db, disk, recent, &Selection::Provides(wanted))

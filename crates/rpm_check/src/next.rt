@@ -2,7 +2,7 @@
 
 ghost use Rattle.std.specs.Prelude.{◌≡◌, IsTrue, filter, IfOk};
 ghost use Rattle.std.specs.FinMap as finite;
-ghost use Rattle.rpm_check.specs.Prelude.{Asks, HasRows, is_above, IsAskable, IsFirst, IsNextUnmet, KnowsOn, lacks, packages_in, required, unmet, unmet_after, unmet_at, unmet_in};
+ghost use Rattle.rpm_check.specs.Prelude.{CheckQuestion, HasKeptRows, is_above_pair, IsAskable, IsFirst, IsNextUnmet, KnowsOn, lacks, packages_in, requirements, unmet, unmet_after, unmet_at, unmet_in};
 
 use crate::faults::CheckFault;
 use crate::lacking::{REQUIRES, lacks, required_count};
@@ -17,7 +17,7 @@ use std::alloc::Global;
 
 /// Whether a pair of a number and a place stands above another, by number and then by place.
 fn is_above(n: u32, i: u32, pair: Unmet) -> bool
-    ensures { result ≡ is_above n i pair }
+    ensures { result ≡ is_above_pair n i pair }
 {
     pair.number > n || (pair.number == n && pair.place > i)
 }
@@ -35,11 +35,11 @@ fn next_lacking<D: Disk>(
 ) -> Result<Option<Unmet>, CheckFault>
     requires asked { IsAskable D.Disk disk.old db.now }
     requires remembers { KnowsOn D.Disk disk.old db.now memo.old }
-    ensures told { IfOk result (λ next. IsTrue D.tells → HasRows D.Disk disk.old db.now
-        → IsFirst (filter (is_above n i) (unmet_in (lacks (packages_in D.Disk disk.old db.now)) number
-        (required view.now) 0)) next) }
+    ensures told { IfOk result (λ next. IsTrue D.tells → HasKeptRows D.Disk disk.old db.now
+        → IsFirst (filter (is_above_pair n i) (unmet_in (lacks (packages_in D.Disk disk.old db.now)) number
+        (requirements view.now) 0)) next) }
     ensures remembered { KnowsOn D.Disk disk.old db.now memo.new }
-    ensures asks { Asks D.Disk disk.old disk.new db.now result }
+    ensures asks { CheckQuestion D.Disk disk.old disk.new db.now result }
 {
     let mut left = dependencies(view, REQUIRES);
     for place in 0..required_count(view) {
@@ -70,11 +70,11 @@ fn next_in<D: Disk>(
 ) -> Result<Option<Unmet>, CheckFault>
     requires asked { IsAskable D.Disk disk.old db.now }
     requires remembers { KnowsOn D.Disk disk.old db.now memo.old }
-    ensures told { IfOk result (λ next. IsTrue D.tells → HasRows D.Disk disk.old db.now
-        → IsFirst (filter (is_above n i) (unmet_at (lacks (packages_in D.Disk disk.old db.now)) number
+    ensures told { IfOk result (λ next. IsTrue D.tells → HasKeptRows D.Disk disk.old db.now
+        → IsFirst (filter (is_above_pair n i) (unmet_at (lacks (packages_in D.Disk disk.old db.now)) number
         (finite.get (packages_in D.Disk disk.old db.now) number))) next) }
     ensures remembered { KnowsOn D.Disk disk.old db.now memo.new }
-    ensures asks { Asks D.Disk disk.old disk.new db.now result }
+    ensures asks { CheckQuestion D.Disk disk.old disk.new db.now result }
 {
     match read_header(alloc, db, disk, number, room)? {
         Some(view) => next_lacking(alloc, db, disk, memo, number, &view, n, i),
@@ -100,9 +100,9 @@ pub fn next_unmet<D: Disk>(
     i: u32,
 ) -> Result<Option<Unmet>, CheckFault>
     requires asked { IsAskable D.Disk disk.old db.now }
-    ensures told { IfOk result (λ next. IsTrue D.tells → HasRows D.Disk disk.old db.now → IsNextUnmet (packages_in D.Disk disk.old db.now) n i next) }
+    ensures told { IfOk result (λ next. IsTrue D.tells → HasKeptRows D.Disk disk.old db.now → IsNextUnmet (packages_in D.Disk disk.old db.now) n i next) }
     ensures begins { IsTrue D.tells → unmet_after (packages_in D.Disk disk.old db.now) 0 0 ≡ unmet (packages_in D.Disk disk.old db.now) }
-    ensures asks { Asks D.Disk disk.old disk.new db.now result }
+    ensures asks { CheckQuestion D.Disk disk.old disk.new db.now result }
 {
     let mut memo = Memo::new(alloc);
     let mut room = Vec::new(alloc);

@@ -2,7 +2,7 @@
 
 ghost use Rattle.std.specs.Prelude.{◌≡◌, ◌++◌, ◌<◌, ◌≤◌, All, IsTrue, IfOk, OnOk};
 ghost use Rattle.std.specs.FinMap as finite;
-ghost use Rattle.rpm_check.specs.Prelude.{all_edges, AreRising, Asks, edges_from, edges_of, flat_map, good_if, good_numbers, HasRows, is_good_at, IsAskable, KnowsGiversOn, numbers_of, packages_in};
+ghost use Rattle.rpm_check.specs.Prelude.{all_edges, AreNodesRising, CheckQuestion, edges_from, edges_of, flat_map, good_if, good_numbers, HasKeptRows, is_good_at, IsAskable, KnowsGiversOn, node_numbers, packages_in};
 
 use crate::ends::ends_of;
 use crate::faults::CheckFault;
@@ -31,19 +31,19 @@ fn push_node<D: Disk>(
 ) -> Result<(), CheckFault>
     requires asked { IsAskable D.Disk disk.old db.now }
     requires remembers { KnowsGiversOn D.Disk disk.old db.now memo.old }
-    requires rising { AreRising nodes.old.items }
-    requires below { All (λ n. n < number) (numbers_of nodes.old.items) }
-    ensures rising { OnOk result (AreRising nodes.new.items) }
-    ensures reached { OnOk result (All (λ n. n ≤ number) (numbers_of nodes.new.items)) }
+    requires rising { AreNodesRising nodes.old.items }
+    requires below { All (λ n. n < number) (node_numbers nodes.old.items) }
+    ensures rising { OnOk result (AreNodesRising nodes.new.items) }
+    ensures reached { OnOk result (All (λ n. n ≤ number) (node_numbers nodes.new.items)) }
     ensures numbers { OnOk result (IsTrue D.tells
-        → numbers_of nodes.new.items ≡ numbers_of nodes.old.items ++ good_if
+        → node_numbers nodes.new.items ≡ node_numbers nodes.old.items ++ good_if
         (is_good_at (finite.get (packages_in D.Disk disk.old db.now) number)) number) }
-    ensures told { OnOk result (IsTrue D.tells → HasRows D.Disk disk.old db.now
+    ensures told { OnOk result (IsTrue D.tells → HasKeptRows D.Disk disk.old db.now
         → flat_map (edges_of (good_numbers (packages_in D.Disk disk.old db.now))) nodes.new.items ≡ flat_map
         (edges_of (good_numbers (packages_in D.Disk disk.old db.now))) nodes.old.items ++ edges_from
         (packages_in D.Disk disk.old db.now) number) }
     ensures remembered { KnowsGiversOn D.Disk disk.old db.now memo.new }
-    ensures asks { Asks D.Disk disk.old disk.new db.now result }
+    ensures asks { CheckQuestion D.Disk disk.old disk.new db.now result }
 {
     let ends = match ends_of(alloc, db, disk, memo, number, room) {
         Ok(None) => return Ok(()),
@@ -59,12 +59,12 @@ fn push_node<D: Disk>(
 /// The packages that can be read, by rising number. Reads the blocks of each package once.
 pub fn read_nodes<D: Disk>(alloc: Global, db: &Db, disk: &mut D) -> Result<Vec<Node>, CheckFault>
     requires asked { IsAskable D.Disk disk.old db.now }
-    ensures rising { IfOk result (λ nodes. AreRising nodes.items) }
-    ensures numbers { IfOk result (λ nodes. IsTrue D.tells → numbers_of nodes.items ≡ good_numbers (packages_in D.Disk disk.old db.now)) }
-    ensures told { IfOk result (λ nodes. IsTrue D.tells → HasRows D.Disk disk.old db.now
+    ensures rising { IfOk result (λ nodes. AreNodesRising nodes.items) }
+    ensures numbers { IfOk result (λ nodes. IsTrue D.tells → node_numbers nodes.items ≡ good_numbers (packages_in D.Disk disk.old db.now)) }
+    ensures told { IfOk result (λ nodes. IsTrue D.tells → HasKeptRows D.Disk disk.old db.now
         → flat_map (edges_of (good_numbers (packages_in D.Disk disk.old db.now))) nodes.items ≡ all_edges
         (packages_in D.Disk disk.old db.now)) }
-    ensures asks { Asks D.Disk disk.old disk.new db.now result }
+    ensures asks { CheckQuestion D.Disk disk.old disk.new db.now result }
 {
     let mut memo = GiverMemo::new(alloc);
     let mut room = Vec::new(alloc);

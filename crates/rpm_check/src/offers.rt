@@ -2,7 +2,7 @@
 
 ghost use Rattle.std.specs.Prelude.{◌≡◌, ◌==◌, IsTrue, filter, IfOk, map, slice_index};
 ghost use Rattle.std.specs.List.{list_any};
-ghost use Rattle.rpm_check.specs.Prelude.{Asks, entry_in, given, HasRows, hits, is_hit, IsAskable, needed_in, offer_in, offered, packages_in, picks, range_in, ranges_in};
+ghost use Rattle.rpm_check.specs.Prelude.{CheckQuestion, entry_in, given_ranges, HasKeptRows, hits, is_hit, IsAskable, needed_in, offer_in, offered_ranges, packages_in, picks, range_in, ranges_in};
 
 use crate::faults::CheckFault;
 use rpm_db::Db;
@@ -58,7 +58,7 @@ fn ranges_of(alloc: Global, view: &View<'_>, name: &[u8]) -> Result<Vec<Range>, 
 
 /// What a package that was picked provides under a name.
 fn offer_of(alloc: Global, picked: &Picked, name: &[u8]) -> Result<Offer, AllocError>
-    ensures { IfOk result (λ offer. offer_in offer ≡ given name.now (entry_in picked.now)) }
+    ensures { IfOk result (λ offer. offer_in offer ≡ given_ranges name.now (entry_in picked.now)) }
 {
     match picked {
         Picked::Good { number, blob } => {
@@ -84,9 +84,9 @@ fn offers_picked<D: Disk>(
     name: &[u8],
 ) -> Result<Vec<Offer>, CheckFault>
     requires asked { IsAskable D.Disk disk.old db.now }
-    ensures told { IfOk result (λ found. IsTrue D.tells → HasRows D.Disk disk.old db.now
-        → map offer_in found.items ≡ map (given name.now) (picks (packages_in D.Disk disk.old db.now) selection.now)) }
-    ensures asks { Asks D.Disk disk.old disk.new db.now result }
+    ensures told { IfOk result (λ found. IsTrue D.tells → HasKeptRows D.Disk disk.old db.now
+        → map offer_in found.items ≡ map (given_ranges name.now) (picks (packages_in D.Disk disk.old db.now) selection.now)) }
+    ensures asks { CheckQuestion D.Disk disk.old disk.new db.now result }
 {
     let mut picker = Picker::new(alloc, db, disk, selection)?;
     let mut found = Vec::new(alloc);
@@ -107,9 +107,9 @@ pub fn offers_under<D: Disk>(
     name: &[u8],
 ) -> Result<Vec<Offer>, CheckFault>
     requires asked { IsAskable D.Disk disk.old db.now }
-    ensures told { IfOk result (λ found. IsTrue D.tells → HasRows D.Disk disk.old db.now
-        → map offer_in found.items ≡ offered name.now (packages_in D.Disk disk.old db.now)) }
-    ensures asks { Asks D.Disk disk.old disk.new db.now result }
+    ensures told { IfOk result (λ found. IsTrue D.tells → HasKeptRows D.Disk disk.old db.now
+        → map offer_in found.items ≡ offered_ranges name.now (packages_in D.Disk disk.old db.now)) }
+    ensures asks { CheckQuestion D.Disk disk.old disk.new db.now result }
 {
     let wanted = Capability::of_range(name, 0, &[]);
     offers_picked(alloc, db, disk, &Selection::Provides(wanted), name)

@@ -2,7 +2,7 @@
 
 ghost use Rattle.std.specs.Prelude.{◌≡◌, IsTrue, is_some, IfOk};
 ghost use Rattle.std.specs.FinMap as finite;
-ghost use Rattle.rpm_check.specs.Prelude.{Asks, header_at, is_good_at, IsAskable, packages_in};
+ghost use Rattle.rpm_check.specs.Prelude.{CheckQuestion, header_at, is_good_at, IsAskable, packages_in};
 
 use crate::faults::CheckFault;
 use rpm_db::{Db, GetFault};
@@ -23,7 +23,7 @@ pub fn read_header<'a, D: Disk>(
     requires asked { IsAskable D.Disk disk.old db.now }
     ensures good { IfOk result (λ read. IsTrue D.tells → is_some read ≡ is_good_at (finite.get (packages_in D.Disk disk.old db.now) number)) }
     ensures told { IfOk result (λ read. IsTrue D.tells → read ≡ header_at (finite.get (packages_in D.Disk disk.old db.now) number)) }
-    ensures asks { Asks D.Disk disk.old disk.new db.now result }
+    ensures asks { CheckQuestion D.Disk disk.old disk.new db.now result }
 {
     match db.read_in(disk, number, replace(room, Vec::new(alloc))) {
         Ok(blob) => {

@@ -1,7 +1,7 @@
 //! The graph of the packages.
 
 ghost use Rattle.std.specs.Prelude.{◌≡◌, IsTrue, IfOk};
-ghost use Rattle.rpm_check.specs.Prelude.{Asks, graph_of, HasEdgesOf, HasRows, IsAskable, packages_in};
+ghost use Rattle.rpm_check.specs.Prelude.{CheckQuestion, graph_of, HasEdgesOf, HasKeptRows, IsAskable, packages_in};
 
 use crate::edges::graph_of;
 use crate::faults::CheckFault;
@@ -31,9 +31,9 @@ use std::alloc::Global;
 /// - `NoMemory` where a package, a requirement, what is found of it or the graph finds no memory.
 pub fn read_graph<D: Disk>(alloc: Global, db: &Db, disk: &mut D) -> Result<Graph, CheckFault>
     requires asked { IsAskable D.Disk disk.old db.now }
-    ensures told { IfOk result (λ g. IsTrue D.tells → HasRows D.Disk disk.old db.now → g ≡ graph_of (packages_in D.Disk disk.old db.now)) }
-    ensures edges { IfOk result (λ g. IsTrue D.tells → HasRows D.Disk disk.old db.now → HasEdgesOf (packages_in D.Disk disk.old db.now) g) }
-    ensures asks { Asks D.Disk disk.old disk.new db.now result }
+    ensures told { IfOk result (λ g. IsTrue D.tells → HasKeptRows D.Disk disk.old db.now → g ≡ graph_of (packages_in D.Disk disk.old db.now)) }
+    ensures edges { IfOk result (λ g. IsTrue D.tells → HasKeptRows D.Disk disk.old db.now → HasEdgesOf (packages_in D.Disk disk.old db.now) g) }
+    ensures asks { CheckQuestion D.Disk disk.old disk.new db.now result }
 {
     let nodes = read_nodes(alloc, db, disk)?;
     let graph = graph_of(alloc, &nodes)?;
@@ -45,9 +45,9 @@ pub trait ReadGraph {
     /// The graph that `read_graph` gives, with the same faults.
     fn read<D: Disk>(alloc: Global, db: &Db, disk: &mut D) -> Result<Graph, CheckFault>
         requires asked { IsAskable D.Disk disk.old db.now }
-        ensures told { IfOk result (λ g. IsTrue D.tells → HasRows D.Disk disk.old db.now → g ≡ graph_of (packages_in D.Disk disk.old db.now)) }
-        ensures edges { IfOk result (λ g. IsTrue D.tells → HasRows D.Disk disk.old db.now → HasEdgesOf (packages_in D.Disk disk.old db.now) g) }
-        ensures asks { Asks D.Disk disk.old disk.new db.now result };
+        ensures told { IfOk result (λ g. IsTrue D.tells → HasKeptRows D.Disk disk.old db.now → g ≡ graph_of (packages_in D.Disk disk.old db.now)) }
+        ensures edges { IfOk result (λ g. IsTrue D.tells → HasKeptRows D.Disk disk.old db.now → HasEdgesOf (packages_in D.Disk disk.old db.now) g) }
+        ensures asks { CheckQuestion D.Disk disk.old disk.new db.now result };
 }
 
 impl ReadGraph for Graph {

@@ -2,7 +2,7 @@
 
 ghost use Rattle.std.specs.Prelude.{◌≡◌, ◌++◌, IsTrue, IfOk, OnOk};
 ghost use Rattle.std.specs.FinMap as finite;
-ghost use Rattle.rpm_check.specs.Prelude.{Asks, HasRows, IsAskable, KnowsOn, lacks, packages_in, unmet, unmet_at};
+ghost use Rattle.rpm_check.specs.Prelude.{CheckQuestion, HasKeptRows, IsAskable, KnowsOn, lacks, packages_in, unmet, unmet_at};
 
 use crate::faults::CheckFault;
 use crate::lacking::push_lacking;
@@ -25,11 +25,11 @@ fn push_unmet<D: Disk>(
 ) -> Result<(), CheckFault>
     requires asked { IsAskable D.Disk disk.old db.now }
     requires remembers { KnowsOn D.Disk disk.old db.now memo.old }
-    ensures told { OnOk result (IsTrue D.tells → HasRows D.Disk disk.old db.now
+    ensures told { OnOk result (IsTrue D.tells → HasKeptRows D.Disk disk.old db.now
         → found.new.items ≡ found.old.items ++ unmet_at (lacks (packages_in D.Disk disk.old db.now)) number
         (finite.get (packages_in D.Disk disk.old db.now) number)) }
     ensures remembered { KnowsOn D.Disk disk.old db.now memo.new }
-    ensures asks { Asks D.Disk disk.old disk.new db.now result }
+    ensures asks { CheckQuestion D.Disk disk.old disk.new db.now result }
 {
     match read_header(alloc, db, disk, number, room)? {
         Some(view) => push_lacking(alloc, db, disk, memo, number, &view, found),
@@ -57,8 +57,8 @@ fn push_unmet<D: Disk>(
 /// - `NoMemory` where a package, a requirement, what is found of it or the list finds no memory.
 pub fn unmet<D: Disk>(alloc: Global, db: &Db, disk: &mut D) -> Result<UnmetList, CheckFault>
     requires asked { IsAskable D.Disk disk.old db.now }
-    ensures told { IfOk result (λ list. IsTrue D.tells → HasRows D.Disk disk.old db.now → list ≡ unmet (packages_in D.Disk disk.old db.now)) }
-    ensures asks { Asks D.Disk disk.old disk.new db.now result }
+    ensures told { IfOk result (λ list. IsTrue D.tells → HasKeptRows D.Disk disk.old db.now → list ≡ unmet (packages_in D.Disk disk.old db.now)) }
+    ensures asks { CheckQuestion D.Disk disk.old disk.new db.now result }
 {
     let mut memo = Memo::new(alloc);
     let mut room = Vec::new(alloc);

@@ -1,30 +1,30 @@
 -- A course that was gone through on a database that was opened to be changed, as a command says it.
-use Rattle.rpm_commit.proofs.Vocabulary.{BadBy, begun, Change, command_limit, Course, Damage, Database, DiskFault, Done, done_why, EmptyBy, CourseProgress}
+use Rattle.rpm_commit.proofs.Vocabulary.{BadBy, begun_store, Change, command_limit, Course, Damage, Database, DiskFault, Done, done_why, EmptyBy, CourseProgress}
 use Rattle.rpm_commit.proofs.Vocabulary.{ended_as}
-use Rattle.rpm_commit.proofs.Vocabulary.{exercise, exercise_ended, ExerciseFault, Files, first_limit, first_refusal, Halt, Halted, HasRows, HasStore, holds, idle}
+use Rattle.rpm_commit.proofs.Vocabulary.{exercise, exercise_ended, ExerciseFault, Files, limit_of_command, limit_of_changes, Halt, Halted, HasRows, HasStore, holds, idle}
 use Rattle.rpm_commit.proofs.Vocabulary.{in_file, is_halt, is_there, IsCurrent, IsIndexed, IsLawful, IsNext, IsOfOpening, IsPaged, IsRefused, Keeps, LimitsBy}
-use Rattle.rpm_commit.proofs.Vocabulary.{LimitsTurn, made_paged, is_rebuilt, makes_small, MayBegin, MeetsFirst, must_make, nat_cmp, next_stores, none_gone, NotEmpty}
-use Rattle.rpm_commit.proofs.Vocabulary.{OnceBegun, OpensBy, OpensIn, OpensOn, Outputs, Package, packages, reached_anew, reached_none, ReachedAnew}
-use Rattle.rpm_commit.proofs.Vocabulary.{ReachesBy, Renewed, room, RoomBecomes, Row, rows, rows_in, Runs, runs_then, SameLog, State, state, state_in, UncommittedProgress}
-use Rattle.rpm_commit.proofs.Vocabulary.{StopsAt, with_spare}
+use Rattle.rpm_commit.proofs.Vocabulary.{LimitsTurn, made_paged, is_rebuilt, makes_small, MayBegin, MeetsFirst, must_rebuild, nat_cmp, next_stores, none_gone, NotEmpty}
+use Rattle.rpm_commit.proofs.Vocabulary.{OnceBegun, OpensBy, OpensIn, OpensOn, Outputs, Package, packages, reached_anew, reached_none, ChangesReachAnew}
+use Rattle.rpm_commit.proofs.Vocabulary.{ReachesBy, HoldsAfterRebuild, store_of, RoomBecomes, Row, rows, rows_in, Runs, runs_then, SameLog, State, state, state_in, UncommittedProgress}
+use Rattle.rpm_commit.proofs.Vocabulary.{MeetsLimit, with_spare}
 use Rattle.rpm_commit.proofs.Vocabulary.{Store, store, stores_paged, Tally, Through, Units, units_for, units_needed, Why, why_of, why_of_halt, WorkBy}
 use Rattle.rpm_commit.proofs.Vocabulary.{Work, WorksOn}
 use Rattle.std.proofs.Common.{◌≡◌, ℕ, ◌≤◌, Bool, true, false, [], Option, None, Result, Ok, Err, refl, sym, ap, ◌∙◌, subst, inl, inr, ⊎_elim, arith, ◌^◌}
 use Rattle.std.specs.Prelude.{IsTrue, IfOk, OnOk, List}
-use Rattle.rpm_change.specs.Went.{IsBlamed}
-use Rattle.rpm_change.specs.Went.{Went}
+use Rattle.rpm_change.specs.Progress.{IsBlamed}
+use Rattle.rpm_change.specs.Progress.{ProgressInBoth}
 use Rattle.rpm_change.specs.Reaches.{all_added}
 use Rattle.rpm_db.specs.Lawful.{IsWholeIndex}
 use Rattle.rpm_db.specs.Reaches.{Gains}
-use Rattle.rpm_commit.specs.inner.Brokens.{done_unbroken, found_unmade, halt_blames, halt_unbroken, open_unbroken}
-use Rattle.rpm_commit.specs.inner.Emptied.{done_unheld, empty_unopened, empty_stopped, empty_done}
+use Rattle.rpm_commit.specs.laws.Brokens.{done_unbroken, found_unmade, halt_blames, halt_unbroken, open_unbroken}
+use Rattle.rpm_commit.specs.laws.Emptied.{done_unheld, empty_unopened, empty_stopped, empty_done}
 use Rattle.rpm_commit.proofs.FileReach.{reached_changed, reached_renewed}
 use Rattle.rpm_commit.proofs.Halting.{halts, later_cause, made_unbroken, opening_kinds, same_halt}
-use Rattle.rpm_commit.specs.inner.Limited.{limits_done, limits_halt, limits_unopened, made_stops}
-use Rattle.rpm_commit.specs.inner.Unmade.{through_none}
-use Rattle.rpm_commit.specs.inner.Works.{halt_stopped, if_found, plain_stops, state-in_file, worked_by}
-use Rattle.rpm_print.specs.inner.Verified.{no_entry, from_one}
-use Rattle.rpm_commit.specs.inner.ByEnding.{by_opening}
+use Rattle.rpm_commit.specs.laws.Limited.{limits_done, limits_halt, limits_unopened, made_stops}
+use Rattle.rpm_commit.specs.laws.Unmade.{through_none}
+use Rattle.rpm_commit.specs.laws.Works.{halt_stopped, if_found, plain_stops, state-in_file, worked_by}
+use Rattle.rpm_print.specs.laws.Verified.{no_entry, from_one}
+use Rattle.rpm_commit.specs.laws.ByEnding.{by_opening}
 use Rattle.rpm_outside.specs.declared.disk.Disk as disk
 use Rattle.rpm_effects.specs.declared.tally.Halt.TheVariants as halt
 use Rattle.rpm_effects.specs.declared.answer.Why.TheVariants as why
@@ -41,17 +41,17 @@ no_rows map none =
     let is : units_for [] ≡ 18 = refl in
     subst (λ (all : List Row). units_for all ≤ 2 ^ 28) (sym same) (omega (arith, is))
 
-room_of_none : (file : Units) (db : Database) → Keeps file db → IsNext (λ m. holds m db) 0 None → units_for (rows (packages file (room db))) ≤ 2 ^ 28
+room_of_none : (file : Units) (db : Database) → Keeps file db → IsNext (λ m. holds m db) 0 None → units_for (rows (packages file (store_of db))) ≤ 2 ^ 28
 room_of_none file db kept none =
-    no_rows (packages file (room db))
-    (sym (from_one file db kept) ∙ no_entry (packages file (room db)) 0 (λ k above. is_there file db k ∙ none k above))
+    no_rows (packages file (store_of db))
+    (sym (from_one file db kept) ∙ no_entry (packages file (store_of db)) 0 (λ k above. is_there file db k ∙ none k above))
 
 -- so what refuses the first change that is refused comes first
 pub renewed : (file : Units) (db : Database) (changes : List Change) (r : Result Tally Halt) → Keeps file db → IsNext (λ m. holds m db) 0 None
-    → StopsAt true (first_refusal true (state file (room db)) (room db) changes) r
-    → StopsAt true (first_limit true (state file (room db)) (room db) changes) r
-renewed file db changes r kept none stops = subst (λ (first : Option Halt). StopsAt true first r)
-    (sym (makes_small true (state file (room db)) (room db) changes (λ made. room_of_none file db kept none))) stops
+    → MeetsLimit true (limit_of_changes true (state file (store_of db)) (store_of db) changes) r
+    → MeetsLimit true (limit_of_command true (state file (store_of db)) (store_of db) changes) r
+renewed file db changes r kept none stops = subst (λ (first : Option Halt). MeetsLimit true first r)
+    (sym (makes_small true (state file (store_of db)) (store_of db) changes (λ made. room_of_none file db kept none))) stops
 
 stopped_open : (c : Course) (making : Bool) (needed : ℕ) (s : State) (new : Files) (w : Why) (before now : Outputs)
     → OpensIn making needed s new (Err w) → Through [] before now → UncommittedProgress c w before now
@@ -62,7 +62,7 @@ stopped_open c making needed s new w before now opens none =
 unopened : (course : State → Course) (old new last : Files) (sr : Result Store Damage) (w : Why) (before now : Outputs) → OpensBy old sr new (Err w)
     → Through [] before now → WorkBy course old.pkg sr last (Err w) before now
 unopened course old new last (Ok s) w before now opens none =
-    stopped_open (course (state old.pkg s)) (must_make old.idx (Ok s)) (units_needed old.pkg (Ok s)) (state old.pkg s) new w before now opens none
+    stopped_open (course (state old.pkg s)) (must_rebuild old.idx (Ok s)) (units_needed old.pkg (Ok s)) (state old.pkg s) new w before now opens none
 unopened course old new last (Err d) w before now opens none = (opens, none)
 
 pub open_with : (anew changing : Bool) (course : State → Course) (old new : Files) (w : Why) (before now : Outputs) → OpensBy old (store old.pkg) new (Err w)
@@ -113,8 +113,8 @@ module _ {D : Type 0} (d : disk.Ghosts D) (trans : (a b c : D) → d.follows a b
   abbrev T : Type 0
   T = Told d reads Telling
 
-  found_if : (told : IsTrue d.tells) (P : Store → State → Store → Type 0) → P (opened.found told).value found (room db)
-      → IfOk (store (d.files old).pkg) (λ value. P value (state (d.files old).pkg value) (begun value))
+  found_if : (told : IsTrue d.tells) (P : Store → State → Store → Type 0) → P (opened.found told).value found (store_of db)
+      → IfOk (store (d.files old).pkg) (λ value. P value (state (d.files old).pkg value) (begun_store value))
   found_if told = if_found (d.files old) (d.files mid) db (opens told) (opened.found told)
 
   module _ (anew changing none : Bool) (course : State → Course) (new : D) (before behind : Outputs) where
@@ -127,7 +127,7 @@ module _ {D : Type 0} (d : disk.Ghosts D) (trans : (a b c : D) → d.follows a b
     -- what it meets first, where the index is asked or isn't
     abbrev Meets : IsTrue d.tells → (Bool → Option Halt → Type 0) → Type 0
     Meets told P = (indexed : Bool) → (indexed ≡ true → MayBegin anew Lawful)
-        → P indexed (command_limit indexed (is_rebuilt anew (d.files old).idx (opened.found told).value) found (room db) changes)
+        → P indexed (command_limit indexed (is_rebuilt anew (d.files old).idx (opened.found told).value) found (store_of db) changes)
 
     all_runs : Runs d SameLog mid new → Runs d SameLog old new
     all_runs more = runs_then d trans SameLog SameLog SameLog old mid new (λ x y log. log) (λ x y z first second. second ∙ first) runs more
@@ -137,7 +137,8 @@ module _ {D : Type 0} (d : disk.Ghosts D) (trans : (a b c : D) → d.follows a b
         (λ value s v. MeetsFirst indexed (command_limit indexed (is_rebuilt anew (d.files old).idx value) s v (course s).changes) w) (meets indexed may)
 
     -- it was stopped
-    stopped_works : (w : Why) → is_halt w ≡ true → (T → UncommittedProgress (course found) w before behind) → (T → BadBy changing (d.files old).pkg (d.files old).idx w)
+    stopped_works : (w : Why) → is_halt w ≡ true → (T → UncommittedProgress (course found) w before behind)
+        → (T → BadBy changing (d.files old).pkg (d.files old).idx w)
         → ((t : T) → Meets t.0 (λ indexed first. MeetsFirst indexed first w)) → (IsTrue d.tells → EmptyBy none (d.files old) w) → Runs d SameLog mid new
         → DiskFault d (w ≡ why.DiskFault) mid new → Works (Err w)
     stopped_works w halts stopped bad meets empty more fault = record {
@@ -162,9 +163,9 @@ module _ {D : Type 0} (d : disk.Ghosts D) (trans : (a b c : D) → d.follows a b
     -- or gone through
     record Gone (told : IsTrue d.tells) (last : Database) (tally : Tally) : Type 0 where
       done : Done (course found) found (state_in d new last) tally before behind
-      keeps : store (d.files new).pkg ≡ Ok (in_file (room last))
-      paged : IsPaged (room last)
-      stores : RoomBecomes (next_stores changes (room db)) (room db) (room last)
+      keeps : store (d.files new).pkg ≡ Ok (in_file (store_of last))
+      paged : IsPaged (store_of last)
+      stores : RoomBecomes (next_stores changes (store_of db)) (store_of db) (store_of last)
       index : MayBegin anew Lawful → IsIndexed (d.files new).pkg (d.files new).idx last
       first : Meets told (λ indexed first. first ≡ None)
       reached : ReachesBy anew Lawful course (d.files old) (d.files new)
@@ -176,18 +177,20 @@ module _ {D : Type 0} (d : disk.Ghosts D) (trans : (a b c : D) → d.follows a b
           let it = gone t in
           record {
             went = worked_by (d.files old) (d.files mid) db (opens t.0) (opened.found t.0) course (d.files new) (Ok tally) before behind (
-              in_file (room last),
+              in_file (store_of last),
               it.keeps,
-              subst (λ (s : State). Done (course found) found s tally before behind) (sym (state-in_file (d.files new).pkg (room last))) it.done,
+              subst (λ (s : State). Done (course found) found s tally before behind) (sym (state-in_file (d.files new).pkg (store_of last))) it.done,
             );
             bad = λ unit is. absurd (done_unbroken tally.failed unit is);
-            made = record { value = in_file (room last); undamaged = it.keeps; paged = it.paged };
-            stored = found_if t.0 (λ value s v. HasStore v (course s).changes (d.files new).pkg) (with_spare (room db).spare (room last), it.stores, it.keeps);
+            made = record { value = in_file (store_of last); undamaged = it.keeps; paged = it.paged };
+            stored =
+                found_if t.0 (λ value s v. HasStore v (course s).changes (d.files new).pkg)
+                (with_spare (store_of db).spare (store_of last), it.stores, it.keeps);
             index = λ may. record {
-              value = in_file (room last);
+              value = in_file (store_of last);
               undamaged = it.keeps;
               current = (it.index may).current;
-              rows_are = subst (λ (s : State). HasRows s.packages (d.files new).idx) (sym (state-in_file (d.files new).pkg (room last)))
+              rows_are = subst (λ (s : State). HasRows s.packages (d.files new).idx) (sym (state-in_file (d.files new).pkg (store_of last)))
                   (it.index may).rows_are;
             };
             reached = it.reached;
@@ -219,19 +222,19 @@ module _ {D : Type 0} (d : disk.Ghosts D) (trans : (a b c : D) → d.follows a b
         first = λ indexed may.
             plain_stops (d.files old) (d.files mid) db (opens t.0) (opened.found t.0) indexed (λ s. idle) (Ok none) refl;
         reached = λ indexed may. reached_changed indexed (λ s. idle) (d.files old) (d.files mid) (d.files mid) db (opens t.0) (opened.found t.0)
-            (reached_none indexed found (room db) (d.files mid)) (inl (omega arith));
+            (reached_none indexed found (store_of db) (d.files mid)) (inl (omega arith));
       }) (λ tells. refl) same (omega arith)
 
   module _ (course : State → Course) (new : D) (last : Database) (before behind : Outputs) where
     -- its changes go into the index that is there
     pub went_works : {Said : Type 0} (says : T → Said) {Ends : Course → State → State → Result Tally Halt → Type 0}
-        (r : Result Tally Halt) → Went d Said mid new db last r Ends (course found)
+        (r : Result Tally Halt) → ProgressInBoth d Said mid new db last r Ends (course found)
         → (T → CourseProgress (course found) found (state_in d new last) r before behind)
         → WorksOn d false true false course T before behind old new (ended_as r)
     went_works says (Ok tally) went ended = done_works false true false course new before behind last tally (λ t. record {
       done = ended t;
       keeps = (went.left.carried.serving t.0).keeps;
-      paged = stores_paged (course found).changes (room db) (room last) (went.limits (says t) false (λ asked. absurd cc)).stores
+      paged = stores_paged (course found).changes (store_of db) (store_of last) (went.limits (says t) false (λ asked. absurd cc)).stores
           (made_paged db opened.not_blank);
       stores = (went.limits (says t) false (λ asked. absurd cc)).stores;
       index = λ lawful. went.left.carried.index t.0 (opened.rows t.0 lawful);
@@ -249,7 +252,7 @@ module _ {D : Type 0} (d : disk.Ghosts D) (trans : (a b c : D) → d.follows a b
         let broken = λ (was : IsWholeIndex (d.files mid).idx). halt_unbroken (d.files new).idx h unit (went.whole t.0 was) is in
         let same = found_unmade (d.files old).idx (d.files mid).idx (λ made. made.rows_are.whole) (opened.finds t.0) broken in
         (refl, opened.broken t.0 broken, subst (λ (u : Units). IsBlamed u unit) same (halt_blames (d.files mid).idx h unit (went.bad t.0) is)))
-        (λ t indexed may. limits_halt indexed (is_rebuilt false (d.files old).idx (opened.found t.0).value) found (room db) (course found).changes h
+        (λ t indexed may. limits_halt indexed (is_rebuilt false (d.files old).idx (opened.found t.0).value) found (store_of db) (course found).changes h
         (plain_stops (d.files old) (d.files mid) db (opens t.0) (opened.found t.0) indexed course (Err h)
         (went.limits (says t) indexed (λ asked. opened.rows t.0 (may asked))).first))
         (λ tells. (halts h).unheld) went.left.runs (halt_fault false true false course new before behind h went.left.disk refl)
@@ -257,25 +260,25 @@ module _ {D : Type 0} (d : disk.Ghosts D) (trans : (a b c : D) → d.follows a b
     -- the index is made anew before them
     pub anew_works : (none : Bool) (r : Result Tally Halt) → (IsTrue d.tells → EmptyBy none (d.files old) (why_of (ended_as r)))
         → (T → CourseProgress (course found) found (state_in d new last) r before behind)
-        → (IsTrue d.tells → StopsAt true (first_limit true found (room db) (course found).changes) r) → IfOk r (λ _tally. IsCurrent d new last)
-        → OnOk r (IsTrue d.tells → RoomBecomes (next_stores (course found).changes (room db)) (room db) (room last))
-        → OnOk r (IsTrue d.tells → ReachedAnew found (room db) (course found).changes (d.files mid) (d.files new)) → Runs d SameLog mid new
+        → (IsTrue d.tells → MeetsLimit true (limit_of_command true found (store_of db) (course found).changes) r) → IfOk r (λ _tally. IsCurrent d new last)
+        → OnOk r (IsTrue d.tells → RoomBecomes (next_stores (course found).changes (store_of db)) (store_of db) (store_of last))
+        → OnOk r (IsTrue d.tells → ChangesReachAnew found (store_of db) (course found).changes (d.files mid) (d.files new)) → Runs d SameLog mid new
         → DiskFault d (r ≡ Err halt.DiskFault) mid new → WorksOn d true false none course T before behind old new (ended_as r)
     anew_works none (Ok tally) empty ended stops current stores reach more fault = done_works true false none course new before behind last tally (λ t. record {
       done = ended t;
       keeps = (current.ready.serving t.0).keeps;
-      paged = stores_paged (course found).changes (room db) (room last) (stores t.0) (made_paged db opened.not_blank);
+      paged = stores_paged (course found).changes (store_of db) (store_of last) (stores t.0) (made_paged db opened.not_blank);
       stores = stores t.0;
       index = λ _. current.index t.0;
-      first = λ indexed may. made_stops indexed true found (room db) (course found).changes (Ok tally) (stops t.0);
+      first = λ indexed may. made_stops indexed true found (store_of db) (course found).changes (Ok tally) (stops t.0);
       reached = λ indexed may. reached_renewed indexed course (d.files old) (d.files mid) (d.files new) db (opens t.0) (opened.found t.0) (reach t.0);
     }) empty more fault.later
     anew_works none (Err h) empty ended stops current stores reach more fault = stopped_works true false none course new before behind
         (why_of_halt h) (halts h).halted
         (λ t. halt_stopped (course found) found (state_in d new last) h before behind (ended t))
-        (λ t unit is. absurd (made_unbroken found (room db) (course found).changes h unit (stops t.0) is))
-        (λ t indexed may. limits_halt indexed true found (room db) (course found).changes h
-        (made_stops indexed true found (room db) (course found).changes (Err h) (stops t.0)))
+        (λ t unit is. absurd (made_unbroken found (store_of db) (course found).changes h unit (stops t.0) is))
+        (λ t indexed may. limits_halt indexed true found (store_of db) (course found).changes h
+        (made_stops indexed true found (store_of db) (course found).changes (Err h) (stops t.0)))
         empty more (halt_fault true false none course new before behind h fault refl)
 
   -- ---- the exercise
@@ -285,8 +288,8 @@ module _ {D : Type 0} (d : disk.Ghosts D) (trans : (a b c : D) → d.follows a b
     made = (exercise n found).changes
 
     abbrev Turns : Result Tally Halt → Type 0
-    Turns r = Renewed (units_needed (d.files mid).pkg (Ok (room db)))
-        (λ files. LimitsTurn true found (room db) (room last) files (d.files new) made r) (d.files mid)
+    Turns r = HoldsAfterRebuild (units_needed (d.files mid).pkg (Ok (store_of db)))
+        (λ files. LimitsTurn true found (store_of db) (store_of last) files (d.files new) made r) (d.files mid)
 
     pub exercise_works : (r : Result Tally ExerciseFault) → IsRefused (IsNext (λ m. holds m db) 0) r
         → ((held : ℕ) → r ≡ Err (NotEmpty held) → Through [] before behind)
@@ -298,7 +301,7 @@ module _ {D : Type 0} (d : disk.Ghosts D) (trans : (a b c : D) → d.follows a b
         (λ told. renewed (d.files mid).pkg db made (Ok tally) (opened.ready.serving told).keeps empty (turns told).holds.first) current
         (λ told. (turns told).holds.stores)
         (λ told. (let turn = turns told in
-        reached_anew found (room db) made (d.files mid) turn.mid (d.files new) turn.same turn.made turn.holds.reached))
+        reached_anew found (store_of db) made (d.files mid) turn.mid (d.files new) turn.same turn.made turn.holds.reached))
         more (record { later = fault.later; rose = λ is. absurd cc })
     exercise_works (Err (Halted h)) empty refused ended turns current more fault = anew_works (λ s. exercise n s) new last before behind true (Err h)
         (λ told. empty_stopped (d.files old) (d.files mid) db (opens told) (opened.found told) (Halted h) empty) ended

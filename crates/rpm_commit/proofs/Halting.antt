@@ -1,6 +1,6 @@
 -- The halt that an ending of a command tells, and what the command keeps of a shelf and of the sinks.
-use Rattle.rpm_commit.proofs.Vocabulary.{Buffered, Change, EmptyBy, ended_as, exercise_ended, ExerciseFault, Files, first_limit, Halt, Halted, Hand, HasCauseAt}
-use Rattle.rpm_commit.proofs.Vocabulary.{inner, is_halt, is_held, IsOfOpening, never_bad_made, NotEmpty, OnceBegun, Rose, State, StopsAt, Store, Streams, Tally}
+use Rattle.rpm_commit.proofs.Vocabulary.{Buffered, Change, EmptyBy, ended_as, exercise_ended, ExerciseFault, Files, limit_of_command, Halt, Halted, Hand, HasCauseAt}
+use Rattle.rpm_commit.proofs.Vocabulary.{inner, is_halt, is_not_empty, IsOfOpening, never_bad_made, NotEmpty, OnceBegun, Rose, State, MeetsLimit, Store, Streams, Tally}
 use Rattle.rpm_commit.proofs.Vocabulary.{Why, why_of, why_of_halt}
 use Rattle.std.proofs.Common.{◌≡◌, ℕ, ◌≤◌, Bool, true, false, List, Option, Some, None, Result, Ok, Err, refl, sym, ap, ◌∙◌, subst, arith}
 use Rattle.std.specs.Prelude.{IsTrue, IfErr}
@@ -8,7 +8,7 @@ use Rattle.rpm_outside.specs.declared.shelf.Shelf as shelf
 use Rattle.rpm_outside.specs.declared.sink.Sink as sink
 use Rattle.rpm_effects.specs.declared.tally.Halt.TheVariants as halt
 use Rattle.rpm_effects.specs.declared.answer.Why.TheVariants as why
-use Rattle.rpm_commit.specs.inner.Emptied.{done_unheld}
+use Rattle.rpm_commit.specs.laws.Emptied.{done_unheld}
 
 -- ---- the halt that an ending tells
 
@@ -28,7 +28,7 @@ halt_of_why others = None
 -- it comes before a commit, isn't that packages were found, and tells one halt
 pub record Halts (h : Halt) : Type 0 where
   pub halted : is_halt (why_of_halt h) ≡ true
-  pub unheld : is_held (why_of_halt h) ≡ false
+  pub unheld : is_not_empty (why_of_halt h) ≡ false
   pub one : halt_of_why (why_of_halt h) ≡ Some h
 
 pub halts : (h : Halt) → Halts h
@@ -62,7 +62,7 @@ course_empty files (Ok tally) = done_unheld tally.failed
 course_empty files (Err h) = (halts h).unheld
 
 -- an index that is rebuilt is never bad
-pub made_unbroken : (s : State) (v : Store) (changes : List Change) (h : Halt) (unit : ℕ) → StopsAt true (first_limit true s v changes) (Err h)
+pub made_unbroken : (s : State) (v : Store) (changes : List Change) (h : Halt) (unit : ℕ) → MeetsLimit true (limit_of_command true s v changes) (Err h)
     → why_of_halt h ≡ why.BadIndex unit → ⊥
 made_unbroken s v changes (halt.BadIndex u) unit stops is = never_bad_made true changes s v u (stops refl)
 made_unbroken s v changes others unit stops is = cc
@@ -110,7 +110,7 @@ module _ {S O E : Type 0} (s : shelf.Ghosts S) (o : sink.Ghosts O) (e : sink.Gho
 
 -- ---- not opened
 
-pub opening_kinds : (w : Why) → IsOfOpening w → (is_halt w ≡ true) × (is_held w ≡ false)
+pub opening_kinds : (w : Why) → IsOfOpening w → (is_halt w ≡ true) × (is_not_empty w ≡ false)
 opening_kinds (why.Damaged d) is = (refl, refl)
 opening_kinds (why.IndexFull u) is = (refl, refl)
 opening_kinds why.DiskFault is = (refl, refl)

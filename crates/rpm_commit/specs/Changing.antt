@@ -1,32 +1,33 @@
--- Commands that change packages: what each answers and leaves. A command is the course that it takes from the state that it finds. On it rest
--- `did` and `changed` of `changes`, and `empty`, on the page (`rpm_tool`, Theorem.antt).
-use Rattle.std.specs.Prelude.{◌≡◌, ◌⊎◌, ℕ, ◌^◌, ◌≤◌, [], length, Bool, true, false, Some, None, is_some, Result, Ok, Err, IfOk}
+-- Commands that change packages: what each answers and leaves. A command is the course that it takes from the state
+-- that it finds. On it rest `did` and `changed` of `changes`, and `empty`, on the page (`rpm_tool`, Theorem.antt).
+use Rattle.std.specs.Prelude.{◌≡◌, ◌⊎◌, ℕ, ◌^◌, ◌≤◌, [], length, Bool, true, false, Some, None, is_some, Result, Ok}
+use Rattle.std.specs.Prelude.{Err, IfOk}
 use Rattle.std.specs.Ordering.{nat_cmp}
 use Rattle.std.specs.FinMap as finite
 use Rattle.std.specs.FinMap.{FinMap}
 use Rattle.rpm_outside.specs.declared.disk.Disk as disk
-use Rattle.rpm_outside.specs.Changes.{AreSettled}
+use Rattle.rpm_outside.specs.Changes.{AreDurable}
 use Rattle.rpm_outside.specs.Files.{Units, Files}
-use Rattle.rpm_outside.specs.Frame.{images, LeavesIn}
+use Rattle.rpm_outside.specs.Frame.{images, CrashLeaves}
 use Rattle.rpm_outside.specs.Logs.{LogState, Closed, Malformed, Open, log_state, reopened}
 use Rattle.rpm_pkgdb.specs.declared.slot.Damage.{Damage}
 use Rattle.rpm_pkgdb.specs.Store.{Store, store}
 use Rattle.rpm_db.specs.Changes.{Says}
 use Rattle.rpm_db.specs.Lawful.{HasRows, IsWholeIndex, is_current_at}
-use Rattle.rpm_db.specs.Openings.{must_make, units_needed}
+use Rattle.rpm_db.specs.Openings.{must_rebuild, units_needed}
 use Rattle.rpm_db.specs.Database.{IsNext}
 use Rattle.rpm_db.specs.State.{State, Package, state, packages}
-use Rattle.rpm_change.specs.Went.{IsBlamed}
+use Rattle.rpm_change.specs.Progress.{IsBlamed}
 use Rattle.rpm_effects.specs.Steps.{Course, apply_all}
-use Rattle.rpm_effects.specs.Progress.{Anywhere, Counted, Only, Outputs, Progress, Through}
+use Rattle.rpm_effects.specs.Progress.{Anywhere, CountsFailed, Only, Outputs, Progress, Through}
 use Rattle.rpm_effects.specs.declared.answer.Why.{Why}
 use Rattle.rpm_effects.specs.declared.answer.Why.TheVariants as why
-use Rattle.rpm_effects.specs.Answers.{Misread, Refused}
-use Rattle.rpm_effects.specs.Classes.{is_of_changing, is_done, is_done_or_fault, is_held, is_of_lawful}
+use Rattle.rpm_effects.specs.Answers.{Misread, RefusalIs}
+use Rattle.rpm_effects.specs.Classes.{is_of_changing, is_done, is_done_or_fault, is_not_empty, is_of_lawful}
 use Rattle.rpm_group.specs.Loads.{IsSound}
-use Rattle.rpm_group.specs.Settled.{KeepsLog, ReopensAsOneOf}
+use Rattle.rpm_group.specs.Crashes.{KeepsLog, ReopensAsOneOf}
 use Rattle.rpm_commit.specs.Lawful.{IsLawfulDatabase, AreLawfulDatabases, MayBegin, IsLawfulAndSame}
-use Rattle.rpm_commit.specs.Reaches.{HasStore, ReachesBy, begun}
+use Rattle.rpm_commit.specs.Reaches.{HasStore, ReachesBy, begun_store}
 
 -- ---- what a command answers
 
@@ -34,12 +35,12 @@ use Rattle.rpm_commit.specs.Reaches.{HasStore, ReachesBy, begun}
 abbrev pub ChangeProgress : Course → Why → Outputs → Outputs → Type 0
 ChangeProgress course (why.NotEmpty held) old new = Through [] old new
 ChangeProgress course given old new =
-    Only (is_of_changing given) (Counted course.failed given (Progress course.steps given old new Anywhere))
+    Only (is_of_changing given) (CountsFailed course.failed given (Progress course.steps given old new Anywhere))
 
 -- a course was done of a store that isn't damaged, and of one that is the damage alone was told
 abbrev pub ChangeProgressOnStore : (Store → Course) → Result Store Damage → Why → Outputs → Outputs → Type 0
 ChangeProgressOnStore course (Ok s) given old new = ChangeProgress (course s) given old new
-ChangeProgressOnStore course (Err damage) given old new = Refused damage given × Through [] old new
+ChangeProgressOnStore course (Err damage) given old new = RefusalIs damage given × Through [] old new
 
 -- the log is read first
 abbrev pub ChangeProgressOnLog : (Store → Course) → Result Store Damage → LogState → Why → Outputs → Outputs → Type 0
@@ -63,10 +64,12 @@ HasState s files = Says (λ t. t ≡ s) (reopened files).pkg
 abbrev pub after : (State → Course) → State → State
 after course s = apply_all (course s).changes s
 
--- done, the transaction is committed and counted; a fault of the disk may come before it or after it; else nothing changed
+-- done, the transaction is committed and counted; a fault of the disk may come before it or after it; else nothing
+-- changed
 abbrev pub LeavesState : (State → Course) → State → Why → ℕ → Files → Type 0
 LeavesState course s why.Done changes files = (changes ≡ length (course s).changes) × HasState (after course s) files
-LeavesState course s (why.Failed n) changes files = (changes ≡ length (course s).changes) × HasState (after course s) files
+LeavesState course s (why.Failed n) changes files = (changes ≡ length (course s).changes)
+    × HasState (after course s) files
 LeavesState course s why.DiskFault changes files = (changes ≡ 0) × (HasState s files ⊎ HasState (after course s) files)
 LeavesState course s others changes files = (changes ≡ 0) × HasState s files
 
@@ -88,14 +91,14 @@ pub record HasDurableIndex (files : Files) : Type 0 where
   pub closed : log_state files.log ≡ Closed
   pub indexed : HasCurrent files.pkg files.idx
 
--- all changes of a course were made of what was found: the files have the state and the store after them, are no longer than the changes make them,
--- and are lawful where the command may begin
+-- all changes of a course were made of what was found: the files have the state and the store after them, are no longer
+-- than the changes make them, and are lawful where the command may begin
 pub record HasChanges (anew : Bool) (Lawful : Type 0) (course : State → Course) (found files : Files) : Type 0 where
   pub value : Store
   pub undamaged : store found.pkg ≡ Ok value
   pub sound : IsSound (log_state files.log)
   pub has : HasState (after course (state found.pkg value)) files
-  pub stored : HasStore (begun value) (course (state found.pkg value)).changes (reopened files).pkg
+  pub stored : HasStore (begun_store value) (course (state found.pkg value)).changes (reopened files).pkg
   pub reaches : ReachesBy anew Lawful course found (reopened files)
   pub lawful : MayBegin anew Lawful → IsLawfulDatabase files
 
@@ -122,9 +125,10 @@ AllRowsFit images = (image : Files) → images image → RowsFit image
 -- the index is made where it isn't current; anew, whatever it is
 abbrev pub is_rebuilt : Bool → Units → Store → Bool
 is_rebuilt true idx value = true
-is_rebuilt false idx value = must_make idx (Ok value)
+is_rebuilt false idx value = must_rebuild idx (Ok value)
 
--- a command that asks for no packages finds none, or is refused with the least number; what stops it before it looks comes either way
+-- a command that asks for no packages finds none, or is refused with the least number; what stops it before it looks
+-- comes either way
 abbrev pub EmptyIs : FinMap nat_cmp Package → Why → Type 0
 EmptyIs packages (why.NotEmpty held) = IsNext (λ n. is_some (finite.get packages n)) 0 (Some held)
 EmptyIs packages (why.BadLog unit) = Unit {0}
@@ -141,7 +145,7 @@ EmptyOn files given = IfOk (store files.pkg) (λ value. EmptyIs (packages files.
 -- a command that asks for no packages is refused exactly where there is one, and another never so
 abbrev pub EmptyBy : Bool → Files → Why → Type 0
 EmptyBy true files given = EmptyOn files given
-EmptyBy false files given = is_held given ≡ false
+EmptyBy false files given = is_not_empty given ≡ false
 
 -- an index that is current, and isn't well formed as a whole
 pub record HasBrokenIndex (pkg idx : Units) : Type 0 where
@@ -153,30 +157,38 @@ pub record HasBrokenIndex (pkg idx : Units) : Type 0 where
 -- only a command that changes the index that it finds ever finds it bad, only where it is broken, and it names the
 -- first fault of a chain, or unit 1, which counts too little
 abbrev pub BadBy : Bool → Units → Units → Why → Type 0
-BadBy changing pkg idx given = (unit : ℕ) → given ≡ why.BadIndex unit → (changing ≡ true) × HasBrokenIndex pkg idx × IsBlamed idx unit
+BadBy changing pkg idx given = (unit : ℕ) → given ≡ why.BadIndex unit → (changing ≡ true) × HasBrokenIndex pkg idx
+    × IsBlamed idx unit
 
 -- ---- a command that changes packages
 
 module _ {D : Type 0} (d : disk.Ghosts D) where
   -- all that is said, beside what it answers, on a disk that tells its contents
-  pub record ChangesWith (anew changing : Bool) (course : State → Course) (given : Why) (changes : ℕ) (old new : D) : Type 0 where
+  pub record ChangesWith (anew changing : Bool) (course : State → Course) (given : Why) (changes : ℕ)
+      (old new : D) : Type 0 where
     pub counted : is_done given ≡ false → changes ≡ 0
     pub leaves : IfOk (store (reopened (d.files old)).pkg)
         (λ s. LeavesState course (state (reopened (d.files old)).pkg s) given changes (d.files new))
     pub refused : is_done_or_fault given ≡ false → reopened (d.files new) ≡ reopened (d.files old)
     pub made : is_done given ≡ true → IsDatabaseMade (reopened (d.files new)).pkg
     pub index : MayBegin anew (IsLawfulDatabase (d.files old)) → is_done given ≡ true → HasDurableIndex (d.files new)
-    pub settled : is_done given ≡ true → AreSettled (d.files new) (images d new)
-    pub lawful : MayBegin anew (IsLawfulDatabase (d.files old)) → is_done given ≡ true → AreLawfulDatabases (images d new)
+    pub durable : is_done given ≡ true → AreDurable (d.files new) (images d new)
+    pub lawful : MayBegin anew (IsLawfulDatabase (d.files old)) → is_done given ≡ true
+        → AreLawfulDatabases (images d new)
     pub bad : BadBy changing (reopened (d.files old)).pkg (reopened (d.files old)).idx given
     pub complete : IsLawfulDatabase (d.files old) → is_of_lawful given ≡ true
-    pub stops : AreLawfulDatabases (images d old) → IfOk (store (reopened (d.files old)).pkg)
-        (λ s. LeavesIn d old new (IsLawfulAndSameOr (images d old) (after course (state (reopened (d.files old)).pkg s))))
-    pub unmade : is_done_or_fault given ≡ false → AreLawfulDatabases (images d old) → LeavesIn d old new (IsLawfulAndSame (images d old))
-    pub fits : AreLawfulDatabases (images d old) → AllRowsFit (images d old) → LeavesIn d old new RowsFit
+    pub crashes : AreLawfulDatabases (images d old) → IfOk (store (reopened (d.files old)).pkg)
+        (λ s. CrashLeaves d old new (IsLawfulAndSameOr (images d old)
+        (after course (state (reopened (d.files old)).pkg s))))
+    pub unmade : is_done_or_fault given ≡ false → AreLawfulDatabases (images d old)
+        → CrashLeaves d old new (IsLawfulAndSame (images d old))
+    pub fits : AreLawfulDatabases (images d old) → AllRowsFit (images d old) → CrashLeaves d old new RowsFit
     pub held : is_done given ≡ true → IfOk (store (reopened (d.files old)).pkg)
-        (λ s. (image : Files) → images d new image → HasState (after course (state (reopened (d.files old)).pkg s)) image)
+        (λ s. (image : Files) → images d new image → HasState
+        (after course (state (reopened (d.files old)).pkg s)) image)
     pub kept : KeepsLog (d.files old) (d.files new)
-    pub next : is_done given ≡ true → HasChanges anew (IsLawfulDatabase (d.files old)) course (reopened (d.files old)) (d.files new)
-    pub images : LeavesIn d old new
-        (IsAllOrNone (images d old) given (HasChanges anew (IsLawfulDatabase (d.files old)) course (reopened (d.files old))))
+    pub next : is_done given ≡ true → HasChanges anew (IsLawfulDatabase (d.files old)) course (reopened (d.files old))
+        (d.files new)
+    pub images : CrashLeaves d old new
+        (IsAllOrNone (images d old) given (HasChanges anew (IsLawfulDatabase (d.files old)) course
+        (reopened (d.files old))))

@@ -4,7 +4,7 @@ use Rattle.rpm_outside.specs.Frame.{images}
 use Rattle.rpm_outside.specs.Files.{Files}
 use Rattle.rpm_outside.specs.Logs.{log_state, reopened}
 use Rattle.rpm_group.specs.Loads.{IsSound}
-use Rattle.rpm_group.specs.Settled.{KeepsLog}
+use Rattle.rpm_group.specs.Crashes.{KeepsLog}
 use Rattle.rpm_db.specs.Lawful.{IsLawful}
 
 -- files that represent a lawful database: their log is closed, or has a transaction that makes it of them

@@ -2,8 +2,8 @@ pub mod Changing
 pub mod Lawful
 pub mod Limits
 pub mod OneChange
+pub mod Prelude
 pub mod Reaches
 pub mod Tasks
 pub mod Working
-pub mod inner
-pub mod Prelude
+pub mod laws

@@ -1,34 +1,35 @@
--- The limits of a command that changes packages: the first that it meets is the one that it is answered; and when the disk failed. On it rest
--- `limits`, `log` and `fault` of `changes` on the page (`rpm_tool`, Theorem.antt).
+-- The limits of a command that changes packages: the first that it meets is the one that it is answered; and when the
+-- disk failed. On it rest `limits`, `log` and `fault` of `changes` on the page (`rpm_tool`, Theorem.antt).
 use Rattle.std.specs.Prelude.{◌≡◌, ◌⊎◌, ℕ, ◌^◌, ◌<◌, ◌≤◌, List, Bool, true, false, Option, Some, None, IfOk}
 use Rattle.rpm_outside.specs.declared.disk.Disk as disk
 use Rattle.rpm_outside.specs.Files.{Files}
-use Rattle.rpm_outside.specs.Frame.{images, LeavesIn}
+use Rattle.rpm_outside.specs.Frame.{images, CrashLeaves}
 use Rattle.rpm_outside.specs.Logs.{reopened}
 use Rattle.rpm_pkgdb.specs.Store.{Store, store}
-use Rattle.rpm_group.specs.Groups.{longest_log}
-use Rattle.rpm_group.specs.Settled.{ReopensAsOneOf}
+use Rattle.rpm_group.specs.Transactions.{longest_log}
+use Rattle.rpm_group.specs.Crashes.{ReopensAsOneOf}
 use Rattle.rpm_db.specs.Changes.{Change, Says}
 use Rattle.rpm_db.specs.State.{State, state}
 use Rattle.rpm_effects.specs.declared.tally.Halt.{Halt}
 use Rattle.rpm_effects.specs.declared.tally.Halt.TheVariants as halt
 use Rattle.rpm_effects.specs.Progress.{Outputs, Through}
-use Rattle.rpm_change.specs.Limits.{first_refusal, first_limit}
+use Rattle.rpm_change.specs.Limits.{limit_of_changes, limit_of_command}
 use Rattle.rpm_effects.specs.Steps.{Course}
 use Rattle.rpm_effects.specs.declared.answer.Why.{Why}
 use Rattle.rpm_effects.specs.declared.answer.Why.TheVariants as why
 use Rattle.rpm_commit.specs.Lawful.{IsLawfulDatabase, AreLawfulDatabases, MayBegin, IsLawfulAndSame}
 use Rattle.rpm_commit.specs.Changing.{ChangeProgressOn, ChangesWith, is_rebuilt, after}
-use Rattle.rpm_commit.specs.Reaches.{ReachedOn, begun}
+use Rattle.rpm_commit.specs.Reaches.{LengthsOn, begun_store}
 use Rattle.rpm_commit.specs.Tasks.{TaskParts, is_anew, changes_index}
 
--- what a command is refused for first: an index that has no room, where one is made before the changes, and then what refuses the first change
--- that is refused; where the index isn't asked, only what comes before it in a change
+-- what a command is refused for first: an index that has no room, where one is made before the changes, and then what
+-- refuses the first change that is refused; where the index isn't asked, only what comes before it in a change
 abbrev pub command_limit : Bool → Bool → State → Store → List Change → Option Halt
-command_limit true made s value changes = first_limit made s value changes
-command_limit false made s value changes = first_refusal false s value changes
+command_limit true made s value changes = limit_of_command made s value changes
+command_limit false made s value changes = limit_of_changes false s value changes
 
--- a command that was done met no limit, nor one whose log is too long; one that a limit stopped met that one first, and its index isn't bad
+-- a command that was done met no limit, nor one whose log is too long; one that a limit stopped met that one first, and
+-- its index isn't bad
 abbrev pub MeetsFirst : Bool → Option Halt → Why → Type 0
 MeetsFirst indexed first why.Done = first ≡ None
 MeetsFirst indexed first (why.Failed n) = first ≡ None
@@ -44,11 +45,13 @@ MeetsFirst indexed first others = Unit {0}
 -- doesn't
 abbrev pub LimitsOn : Bool → Bool → (State → Course) → Files → Why → Type 0
 LimitsOn indexed anew course files given = IfOk (store files.pkg) (λ value. MeetsFirst indexed
-    (command_limit indexed (is_rebuilt anew files.idx value) (state files.pkg value) (begun value) (course (state files.pkg value)).changes) given)
+    (command_limit indexed (is_rebuilt anew files.idx value) (state files.pkg value) (begun_store value)
+    (course (state files.pkg value)).changes) given)
 
 -- the index is asked where it is rebuilt, and where the database is lawful
 abbrev pub LimitsBy : Bool → Type 0 → (State → Course) → Files → Why → Type 0
-LimitsBy anew Lawful course files given = (indexed : Bool) → (indexed ≡ true → MayBegin anew Lawful) → LimitsOn indexed anew course files given
+LimitsBy anew Lawful course files given = (indexed : Bool) → (indexed ≡ true → MayBegin anew Lawful)
+    → LimitsOn indexed anew course files given
 
 -- ---- the log
 
@@ -59,22 +62,26 @@ LogIs made others = Unit {0}
 
 -- a transaction is too long for the log: some files with this state that reach no further have so long a log
 abbrev pub IsTransactionTooLong : ℕ → State → (Files → Type 0) → Type 0
-IsTransactionTooLong needed s Reached = (made : Files) × Says (λ t. t ≡ s) made.pkg × Reached made × (2 ^ 28 < needed) × (needed ≤ longest_log made)
+IsTransactionTooLong needed s Reached = (made : Files) × Says (λ t. t ≡ s) made.pkg × Reached made × (2 ^ 28 < needed)
+    × (needed ≤ longest_log made)
 
 -- a course has LogFull told only where its transaction is too long, on files whose Packages.db isn't damaged
 abbrev pub LogOn : Bool → (State → Course) → Files → Why → Type 0
-LogOn indexed course files (why.LogFull needed) = IfOk (store files.pkg) (λ value. IsTransactionTooLong needed (after course (state files.pkg value))
-    (ReachedOn indexed files.pkg files.idx value (state files.pkg value) (course (state files.pkg value)).changes))
+LogOn indexed course files (why.LogFull needed) =
+    IfOk (store files.pkg) (λ value. IsTransactionTooLong needed (after course (state files.pkg value))
+    (LengthsOn indexed files.pkg files.idx value (state files.pkg value) (course (state files.pkg value)).changes))
 LogOn indexed course files others = Unit {0}
 
 -- the index is asked as above
 abbrev pub LogBy : Bool → Type 0 → (State → Course) → Files → Why → Type 0
-LogBy anew Lawful course files given = (indexed : Bool) → (indexed ≡ true → MayBegin anew Lawful) → LogOn indexed course files given
+LogBy anew Lawful course files given = (indexed : Bool) → (indexed ≡ true → MayBegin anew Lawful)
+    → LogOn indexed course files given
 
 -- ---- a fault of the disk
 
 -- a fault came with the commit or after it: all lines were told, and no change was refused
-pub record ToldAll (anew : Bool) (Lawful : Type 0) (course : State → Course) (files : Files) (before now : Outputs) : Type 0 where
+pub record ToldAll (anew : Bool) (Lawful : Type 0) (course : State → Course) (files : Files)
+    (before now : Outputs) : Type 0 where
   pub told : Says (λ s. Through (course s).steps before now) files.pkg
   pub limits : LimitsBy anew Lawful course files why.Done
 
@@ -82,17 +89,18 @@ module _ {D : Type 0} (d : disk.Ghosts D) where
   -- a fault came before the commit: nothing changed, whatever a crash leaves
   pub record StoodStill (old new : D) : Type 0 where
     pub same : reopened (d.files new) ≡ reopened (d.files old)
-    pub stops : AreLawfulDatabases (images d old) → LeavesIn d old new (IsLawfulAndSame (images d old))
-    pub images : LeavesIn d old new (ReopensAsOneOf (images d old))
+    pub crashes : AreLawfulDatabases (images d old) → CrashLeaves d old new (IsLawfulAndSame (images d old))
+    pub images : CrashLeaves d old new (ReopensAsOneOf (images d old))
 
   -- a fault of the disk came before the commit, and nothing changed, or all lines were printed and no limit was met
   abbrev pub FaultIs : Bool → (State → Course) → Why → D → D → Outputs → Outputs → Type 0
   FaultIs anew course given old new before now = given ≡ why.DiskFault
       → StoodStill old new ⊎ ToldAll anew (IsLawfulDatabase (d.files old)) course (reopened (d.files old)) before now
 
-  -- all of a command that changes packages, as the page says it of a run: what it answers, what it leaves, which limit it is answered, when the
-  -- disk failed, and how long its log is where that is refused
-  pub record OneChange (task : TaskParts) (course : State → Course) (given : Why) (changes : ℕ) (old new : D) (before behind : Outputs) : Type 0 where
+  -- all of a command that changes packages, as the page says it of a run: what it answers, what it leaves, which limit
+  -- it is answered, when the disk failed, and how long its log is where that is refused
+  pub record OneChange (task : TaskParts) (course : State → Course) (given : Why) (changes : ℕ) (old new : D)
+      (before behind : Outputs) : Type 0 where
     pub did : ChangeProgressOn course (d.files old) given before behind
     pub changed : ChangesWith d (is_anew task) (changes_index task) course given changes old new
     pub limits : LimitsBy (is_anew task) (IsLawfulDatabase (d.files old)) course (reopened (d.files old)) given

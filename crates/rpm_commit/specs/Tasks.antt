@@ -1,5 +1,5 @@
--- What each command that changes packages does: the course that it takes from the state that it finds. On it rest `changes`, `empty` and
--- `shelf_unread` of the page (`rpm_tool`, Theorem.antt).
+-- What each command that changes packages does: the course that it takes from the state that it finds. On it rest
+-- `changes`, `empty` and `shelf_unread` of the page (`rpm_tool`, Theorem.antt).
 use Rattle.std.specs.Prelude.{ℕ, ◌<◌, ◌≤◌, ◌^◌, List, [], ◌∷◌, length, map, codes, unwrap_or, Bool, true, false}
 use Rattle.std.specs.List.{filter_map}
 use Rattle.rpm_outside.specs.Shelves.{Paths, bytes_at}
@@ -8,7 +8,7 @@ use Rattle.rpm_words.specs.declared.ask.Mode.{Mode}
 use Rattle.rpm_words.specs.declared.ask.Mode.TheVariants.{Addpkg, Replacepkg, Erasepkg, Importdb, Rebuilddb, Exercise}
 use Rattle.rpm_words.specs.Ask.{AskParts}
 use Rattle.rpm_words.specs.Number.{number}
-use Rattle.rpm_words.specs.Words.{text_at}
+use Rattle.rpm_words.specs.Words.{word_at}
 use Rattle.rpm_effects.specs.Steps.{Course, idle}
 use Rattle.rpm_change.specs.Adding.{add_files, replace}
 use Rattle.rpm_change.specs.Erasing.{erase}
@@ -18,9 +18,9 @@ use Rattle.rpm_exercise.specs.Exercised.{exercise}
 use Rattle.rpm_commit.specs.declared.task.Task.{Task}
 use Rattle.rpm_commit.specs.declared.task.Task.TheVariants as task
 
--- what a command changes, with what it is asked: it makes a database where there is none, adds the package files under these paths, puts one
--- in place of a number's package, erases the packages of these numbers, imports a list, rebuilds the database, or makes the exercise of so
--- many headers
+-- what a command changes, with what it is asked: it makes a database where there is none, adds the package files under
+-- these paths, puts one in place of a number's package, erases the packages of these numbers, imports a list, rebuilds
+-- the database, or makes the exercise of so many headers
 pub data TaskParts : Type 0 where
   Making : TaskParts
   Adding : List (List ℕ) → TaskParts
@@ -44,17 +44,17 @@ task_parts (task.Exercise headers) = Exercising headers
 
 -- the numbers among the arguments
 abbrev pub numbers_asked : List (List ℕ) → AskParts → List ℕ
-numbers_asked words a = filter_map (λ w. number (text_at words w)) a.arguments
+numbers_asked words a = filter_map (λ w. number (word_at words w)) a.arguments
 
 -- a number and a path
-abbrev pub replacing : List (List ℕ) → List ℕ → TaskParts
-replacing words (n ∷ path ∷ []) = Replacing (unwrap_or (number (text_at words n)) 0) (text_at words path)
-replacing words others = Making
+abbrev pub replacing_task : List (List ℕ) → List ℕ → TaskParts
+replacing_task words (n ∷ path ∷ []) = Replacing (unwrap_or (number (word_at words n)) 0) (word_at words path)
+replacing_task words others = Making
 
 -- the task of each changing mode, with its arguments
 abbrev pub task_in : Mode → List (List ℕ) → AskParts → TaskParts
-task_in Addpkg words a = Adding (map (text_at words) a.arguments)
-task_in Replacepkg words a = replacing words a.arguments
+task_in Addpkg words a = Adding (map (word_at words) a.arguments)
+task_in Replacepkg words a = replacing_task words a.arguments
 task_in Erasepkg words a = Erasing (numbers_asked words a)
 task_in Importdb words a = Importing
 task_in Rebuilddb words a = Rebuilding

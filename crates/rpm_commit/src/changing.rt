@@ -1,7 +1,7 @@
 //! `AnswersChange` of the theorem: commands that change packages, all changes of a command line as one.
 
 ghost use Rattle.std.specs.Prelude.{◌≡◌, ◌⊎◌, ◌≤◌, true, false, IsTrue, Err, IfErr};
-ghost use Rattle.rpm_commit.specs.Prelude.{asked_task, done_why, EmptyBy, TransactionEnding, is_done, is_halt, is_of_streams, is_of_words, IsShut, IsSound, KeepsAlways, laid_files, LogIs, needs_none, OneChange, overlay_below, overlay_held, overlay_starved, reads_shelf, reopened, Rose, shown, Streams, task_course, unlogged};
+ghost use Rattle.rpm_commit.specs.Prelude.{asked_task, done_why, EmptyBy, TransactionEnding, is_done, is_halt, is_of_streams, is_of_words, IsShut, IsCommandSound, KeepsAlways, laid_files, LogIs, needs_none, OneChange, overlay_below, overlay_held, overlay_starved, reads_shelf, reopened, Rose, shown_outputs, Streams, task_course, without_log};
 
 use crate::courses::change_on;
 use crate::task::task_of;
@@ -42,7 +42,7 @@ fn end_transaction<D: Disk>(overlay: Overlay<D>, ended: Result<Tally, Why>) -> (
     requires halted { IfErr ended (λ given. is_halt given ≡ true) }
     requires shut { IsTrue D.tells → IsShut D.Disk (overlay_below overlay) }
     ensures ends { IsTrue D.tells → TransactionEnding D.Disk ended result.0.why result.0.changes
-        (unlogged (laid_files (overlay_held overlay) (D.files (overlay_below overlay)))) (overlay_below overlay)
+        (without_log (laid_files (overlay_held overlay) (D.files (overlay_below overlay)))) (overlay_below overlay)
         result.1 }
     ensures log { IsTrue D.tells → LogIs (laid_files (overlay_held overlay) (D.files (overlay_below overlay))) result.0.why }
     ensures counted { is_done result.0.why ≡ false → result.0.changes ≡ 0 }
@@ -114,11 +114,11 @@ pub fn change_asked<D: Disk, S: Shelf, O: Sink + Drop, E: Sink + Drop>(
     err: &mut Buffered<E>,
     now: u32,
 ) -> (CommandEnding, D)
-    requires sound { IsSound words.now ask.now }
+    requires sound { IsCommandSound words.now ask.now }
     ensures one { IsTrue D.tells → (reads_shelf (asked_task words.now ask.now) ≡ true → IsTrue S.tells)
         → OneChange D.Disk (asked_task words.now ask.now)
         (task_course (S.paths shelf.old) now (asked_task words.now ask.now)) result.0.why result.0.changes disk result.1
-        (shown O.Sink E.Sink out.old err.old) (shown O.Sink E.Sink out.new err.new) }
+        (shown_outputs O.Sink E.Sink out.old err.old) (shown_outputs O.Sink E.Sink out.new err.new) }
     ensures empty { IsTrue D.tells → EmptyBy (needs_none (asked_task words.now ask.now)) (reopened (D.files disk)) result.0.why }
     ensures keeps { KeepsAlways D.Disk result.0 disk result.1 }
     ensures streams { Streams S.Shelf O.Sink E.Sink (reads_shelf (asked_task words.now ask.now))

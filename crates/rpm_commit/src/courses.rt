@@ -1,7 +1,7 @@
 //! What each command does on the disk over which its changes are held: it opens the database, and changes it.
 
 ghost use Rattle.std.specs.Prelude.{◌≡◌, true, IsTrue, Err};
-ghost use Rattle.rpm_commit.specs.Prelude.{changes_index, ended_as, exercise_ended, is_anew, IsCountable, needs_none, reads_shelf, shown, Streams, task_course, task_parts, WorksOn};
+ghost use Rattle.rpm_commit.specs.Prelude.{changes_index, ended_as, exercise_ended, is_anew, IsCountable, needs_none, reads_shelf, shown_outputs, Streams, task_course, task_parts, WorksOn};
 
 use crate::opening::open_to_change;
 use crate::task::Task;
@@ -46,7 +46,7 @@ pub(crate) fn change_on<D: Disk, S: Shelf, O: Sink + Drop, E: Sink + Drop>(
     ensures works { WorksOn D.Disk (is_anew (task_parts task.now)) (changes_index (task_parts task.now))
         (needs_none (task_parts task.now)) (task_course (S.paths shelf.old) now (task_parts task.now))
         (IsTrue D.tells × (reads_shelf (task_parts task.now) ≡ true → IsTrue S.tells))
-        (shown O.Sink E.Sink out.old err.old) (shown O.Sink E.Sink out.new err.new) disk.old disk.new result }
+        (shown_outputs O.Sink E.Sink out.old err.old) (shown_outputs O.Sink E.Sink out.new err.new) disk.old disk.new result }
     ensures streams { Streams S.Shelf O.Sink E.Sink (reads_shelf (task_parts task.now)) (λ why. result ≡ Err why)
         (shelf.old, out.old, err.old) (shelf.new, out.new, err.new) }
 {

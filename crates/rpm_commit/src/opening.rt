@@ -1,7 +1,7 @@
 //! Opening the database to change it.
 
 ghost use Rattle.std.specs.Prelude.{◌≡◌, false, not, IsTrue, Err, IfOk, IfErr, OnOk};
-ghost use Rattle.rpm_commit.specs.Prelude.{BeginsOn, DiskFault, images, is_blank, is_indexed, IsOfOpening, IsOutside, IsSettled, OpensBy, OpensOn, Runs, SameLog, Serving, store};
+ghost use Rattle.rpm_commit.specs.Prelude.{BeginsOn, DiskFault, images, is_blank_database, is_indexed, IsOfOpening, IsOutside, IsDurable, OpensBy, OpensOn, Runs, SameLog, Serving, store};
 
 use rpm_db::{ChangeFault, Db};
 use rpm_effects::{Why, why_of_open};
@@ -11,9 +11,9 @@ use std::alloc::Global;
 /// Makes a database where there is none, without packages.
 fn make_blank<D: Disk>(alloc: Global, db: &mut Db, disk: &mut D) -> Result<(), Why>
     requires going { db.old.stopped ≡ false }
-    requires indexed { is_indexed db.old ≡ not (is_blank db.old) }
+    requires indexed { is_indexed db.old ≡ not (is_blank_database db.old) }
     requires serving { Serving D.Disk disk.old db.old }
-    requires pkg { IsTrue D.tells → IsSettled File.Pkg (D.files disk.old) (images D.Disk disk.old) }
+    requires pkg { IsTrue D.tells → IsDurable File.Pkg (D.files disk.old) (images D.Disk disk.old) }
     ensures begins { OnOk result (BeginsOn D.Disk disk.old disk.new db.old db.new) }
     ensures fault { IfErr result IsOutside }
     ensures runs { Runs D.Disk SameLog disk.old disk.new }

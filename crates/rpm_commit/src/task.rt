@@ -1,7 +1,7 @@
 //! What a command changes, by its words.
 
 ghost use Rattle.std.specs.Prelude.{◌≡◌, ℕ, ◌+◌, ◌<◌, ◌≤◌, ◌^◌, [], ◌∷◌, ◌++◌, length, map, IfOk, OnOk};
-ghost use Rattle.rpm_commit.specs.Prelude.{asked_task, filter_map, IsCountable, IsSound, number, numbers_asked, replacing, task_parts, text_at};
+ghost use Rattle.rpm_commit.specs.Prelude.{asked_task, filter_map, IsCountable, IsCommandSound, number, numbers_asked, replacing_task, task_parts, word_at};
 
 use rpm_words::{Ask, Mode, Words, number_of};
 use std::alloc::{AllocError, Global};
@@ -53,7 +53,7 @@ fn numbers_of(alloc: Global, words: &Words, ask: &Ask) -> Result<Vec<u32>, Alloc
 
 /// The texts of the arguments.
 fn texts_of<'a>(alloc: Global, words: &'a Words, ask: &Ask) -> Result<Vec<&'a str>, AllocError>
-    ensures texts { IfOk result (λ v. map (λ text. text.now) v.items ≡ map (text_at words.now) ask.now.arguments) }
+    ensures texts { IfOk result (λ v. map (λ text. text.now) v.items ≡ map (word_at words.now) ask.now.arguments) }
     ensures few { IfOk result (λ v. length v.items < 2 ^ 32) }
 {
     let mut texts = Vec::new(alloc);
@@ -66,7 +66,7 @@ fn texts_of<'a>(alloc: Global, words: &'a Words, ask: &Ask) -> Result<Vec<&'a st
 /// Puts the package file that the second argument names in place of the package of the first, a number, where the
 /// words break no rule.
 fn replacing_of<'a>(words: &'a Words, ask: &Ask) -> Task<'a>
-    ensures asked { task_parts result ≡ replacing words.now ask.now.arguments }
+    ensures asked { task_parts result ≡ replacing_task words.now ask.now.arguments }
     ensures countable { IsCountable (task_parts result) }
 {
     if ask.arguments() != 2 {
@@ -81,7 +81,7 @@ fn replacing_of<'a>(words: &'a Words, ask: &Ask) -> Task<'a>
 
 /// What a command changes that changes anything.
 pub fn task_of<'a>(alloc: Global, words: &'a Words, ask: &Ask) -> Result<Task<'a>, AllocError>
-    requires sound { IsSound words.now ask.now }
+    requires sound { IsCommandSound words.now ask.now }
     ensures asked { IfOk result (λ task. task_parts task ≡ asked_task words.now ask.now) }
     ensures countable { IfOk result (λ task. IsCountable (task_parts task)) }
 {

@@ -3,10 +3,10 @@ use Rattle.std.proofs.Common.{◌≡◌, ◌⊎◌, ℕ, ◌+◌, ◌≤◌, ◌
 use Rattle.std.specs.Prelude.{min}
 use Rattle.std.proofs.lemmas.Bool.{cases_Bool}
 use Rattle.std.proofs.lemmas.List.{drop_all}
-use Rattle.rpm_db.proofs.Vocabulary.{AreInOrder, AreWithout, is_before, Row, row_nth, same_row, times, times-append, times_none}
+use Rattle.rpm_db.proofs.Vocabulary.{AreInOrder, AreWithout, is_row_before, Row, row_nth, same_row, times, times-append, times_none}
 use Rattle.rpm_db.proofs.Vocabulary.{times_one}
 use Rattle.rpm_db.proofs.Ordered.{none_from, turned}
-use Rattle.rpm_hindex.specs.inner.RowLaws.{same_is}
+use Rattle.rpm_hindex.specs.laws.RowLaws.{same_is}
 use Rattle.rpm_db.proofs.Shared.{times_from, times_rest}
 
 -- what was taken from each list so far: no row is in one of them and in the other, or still to come there
@@ -50,13 +50,13 @@ module _ (drops adds : List Row) (i j : ℕ) (in_drops : i < length drops) (in_a
       let there = times_from row adds j in_adds in
       (omega (arith, (apart row).0, there), omega (arith, (apart row).1, from))
 
-  pub apart_drop : (gone_then : List Row) → gone_then ≡ gone ++ d ∷ [] → AreInOrder adds → is_before d a ≡ true
+  pub apart_drop : (gone_then : List Row) → gone_then ≡ gone ++ d ∷ [] → AreInOrder adds → is_row_before d a ≡ true
       → NoneIsShared gone new (drop i drops) (drop j adds) → NoneIsShared gone_then new (drop (i + 1) drops) (drop j adds)
   apart_drop gone_then is order before apart row =
       moved row d gone gone_then new (drop i drops) (drop (i + 1) drops) (drop j adds) is (times_from row drops i in_drops)
       (none_from d adds j order in_adds before) (apart row).0 (apart row).1
 
-  pub apart_add : (new_then : List Row) → new_then ≡ new ++ a ∷ [] → AreInOrder drops → is_before d a ≡ false → same_row d a ≡ false
+  pub apart_add : (new_then : List Row) → new_then ≡ new ++ a ∷ [] → AreInOrder drops → is_row_before d a ≡ false → same_row d a ≡ false
       → NoneIsShared gone new (drop i drops) (drop j adds) → NoneIsShared gone new_then (drop i drops) (drop (j + 1) adds)
   apart_add new_then is order behind other apart row =
       let both =

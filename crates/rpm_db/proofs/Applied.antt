@@ -2,7 +2,7 @@
 use Rattle.std.proofs.Common.{◌≡◌, ℕ, ◌+◌, Option, Some, None, Ok, sym, ap, ◌∙◌}
 use Rattle.std.specs.FinMap as finite
 use Rattle.rpm_db.proofs.Vocabulary.{apply, BlobMap, blobs, change_for, Erase, field_for, Good, Header, header, nat_cmp, next-state, next_number, number_for}
-use Rattle.rpm_db.proofs.Vocabulary.{Package, packages, Says, StandsFor, state, state-blobs, state_of, state_with, Store, Units}
+use Rattle.rpm_db.proofs.Vocabulary.{Package, packages, Says, Represents, state, state-blobs, state_of, state_with, Store, Units}
 use Rattle.rpm_db.specs.State.{State}
 use Rattle.rpm_db.proofs.Edited.{put_packages, erased_packages}
 
@@ -20,13 +20,13 @@ pub erase_state : (file : Units) (value : Store) (n : ℕ)
     → state_of (finite.remove (blobs file value) n) value.field ≡ apply (Erase n) (state file value)
 erase_state file value n = ap (λ (ps : finite.FinMap nat_cmp Package). state_with ps value.field) (erased_packages file value n)
 
--- what an image says that stands for a file
-says_state : (generation field : ℕ) (map : BlobMap) (image : Units) (s : StandsFor generation field map image) → state image s.value ≡ state_of map field
+-- what an image says that represents a file
+says_state : (generation field : ℕ) (map : BlobMap) (image : Units) (s : Represents generation field map image) → state image s.value ≡ state_of map field
 says_state generation field map image s =
     state-blobs image s.value ∙ ap (λ (k : BlobMap). state_of k s.value.field) s.blobs_are ∙ ap (state_of map) s.field_is
 
 pub held_by : (file image : Units) (value : Store) (after : State) → state file value ≡ after
-    → StandsFor value.generation value.field (blobs file value) image → Says (λ t. t ≡ after) image
+    → Represents value.generation value.field (blobs file value) image → Says (λ t. t ≡ after) image
 held_by file image value after is s = record {
   value = s.value;
   undamaged = s.undamaged;

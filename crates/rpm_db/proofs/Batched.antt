@@ -6,12 +6,12 @@ use Rattle.std.proofs.lemmas.List.{append-nil}
 use Rattle.std.proofs.lemmas.Bool.Decides.{nat_tests}
 use Rattle.std.specs.FinMap as finite
 use Rattle.rpm_outside.specs.declared.disk.Disk as disk
-use Rattle.rpm_db.proofs.Vocabulary.{AreLawful, BadIndexIs, blobs, change_for, ChangeFault, Erase, erased, field_for, FullIndexIs, Gathers, Header, header, header_rows}
-use Rattle.rpm_db.proofs.Vocabulary.{IsChangedStill, LeavesOnly, number_for, old_rows, put_in, put_map, raised, TakesRows, times_none}
+use Rattle.rpm_db.proofs.Vocabulary.{AreLawful, BadIndexIs, blobs, change_for, ChangeFault, Erase, without_number, field_for, FullIndexIs, Gathers, Header, header, header_rows}
+use Rattle.rpm_db.proofs.Vocabulary.{IsChangedStill, CrashLeavesOnly, number_for, old_rows, put_in, put_map, raised_store, TakesRows, times_none}
 use Rattle.rpm_db.proofs.Vocabulary.{added_rows, dropped_rows}
-use Rattle.rpm_db.proofs.Vocabulary.{added, apply, Balances, BlobMap, Change, changed_number, database_of, Files, Gathered, HasChanged, HasRows}
-use Rattle.rpm_db.proofs.Vocabulary.{IsGathering, IsPutAside, KeepsSums, KeepsUnits, live_of, nat_cmp, nothing, Owes, OwesOn, Package, packages, packages-blobs}
-use Rattle.rpm_db.proofs.Vocabulary.{packages_of, Row, RowChange, rows, room, sealed_in, state, state_of, Store, times, Units, units_for, with_rows}
+use Rattle.rpm_db.proofs.Vocabulary.{added_units, apply, Balances, BlobMap, Change, changed_number, database_of, Files, GatheredChange, HasChanged, HasRows}
+use Rattle.rpm_db.proofs.Vocabulary.{IsGathering, IsPutAside, KeepsSums, KeepsUnits, live_of, nat_cmp, no_row_changes, Owes, OwesOn, Package, packages, packages-blobs}
+use Rattle.rpm_db.proofs.Vocabulary.{packages_of, Row, RowChange, rows, sealed_in, state, state_of, Store, times, Units, units_for, with_rows}
 use Rattle.rpm_db.specs.Gathering.{IsOrdered}
 use Rattle.rpm_db.specs.Room.{RoomIs}
 use Rattle.rpm_db.specs.State.{State}
@@ -29,8 +29,8 @@ use Rattle.rpm_db.proofs.Units.{units_ordered}
 use Rattle.rpm_hindex.proofs.Fewer.{units_less}
 
 -- the packages of now have room, where the index is owed their rows
-owed_fits : (pkg idx : Units) (value : Store) (index : Option hindex.State) (stopped : Bool) (owed : RowChange) → is_some index ≡ true → IsOrdered index
-    → KeepsUnits idx index → (sealed_in index ≡ value.generation → owed ≡ nothing) → Owes pkg idx (database_of value index stopped) owed
+owed_fits : (pkg idx : Units) (value : Store) (index : Option hindex.IndexState) (stopped : Bool) (owed : RowChange) → is_some index ≡ true → IsOrdered index
+    → KeepsUnits idx index → (sealed_in index ≡ value.generation → owed ≡ no_row_changes) → Owes pkg idx (database_of value index stopped) owed
     → units_for (rows (packages pkg value)) ≤ 2 ^ 28
 owed_fits pkg idx value None stopped owed some order keeps clear o = absurd cc
 owed_fits pkg idx value (Some index) stopped owed some order keeps clear o = elim (cases_Bool (sealed_in (Some index) == value.generation)) [
@@ -57,7 +57,7 @@ fits_ok : {A P : Type 0} {Q : P → Type 0} (needed : ℕ) (result : Result A Ch
 fits_ok needed (Ok done) full = full
 fits_ok needed (Err fault) full = tt
 
-module _ {D : Type 0} (d : disk.Ghosts D) (a : D) (st : Store) (index : Option hindex.State) (stopped : Bool) (owed : RowChange) (drops adds : List Row)
+module _ {D : Type 0} (d : disk.Ghosts D) (a : D) (st : Store) (index : Option hindex.IndexState) (stopped : Bool) (owed : RowChange) (drops adds : List Row)
     (to : BlobMap) (changed : HasChanged drops adds (rows (packages (d.files a).pkg st)) (rows (packages_of to)))
     (there : (row : Row) → times row drops ≤ times row (rows (packages (d.files a).pkg st))) where
   -- what balanced before balances with its rows
@@ -69,12 +69,12 @@ module _ {D : Type 0} (d : disk.Ghosts D) (a : D) (st : Store) (index : Option h
   gathered : (b : D) (after : Store) (change : Change) (more : RowChange) (field : ℕ) → IsGathering d a (database_of st index stopped) owed
       → IsPutAside d b st after to field → (IsTrue d.tells → (d.files b).idx ≡ (d.files a).idx)
       → state_of to field ≡ apply change (state (d.files a).pkg st) → (IsTrue d.tells → more ≡ with_rows owed drops adds)
-      → added (state (d.files a).pkg st) change ≡ live_of adds
+      → added_units (state (d.files a).pkg st) change ≡ live_of adds
       → drops ≡ dropped_rows (state (d.files a).pkg st) change → adds ≡ added_rows (state (d.files a).pkg st) change
       → (IsTrue d.tells → OwesOn d a (database_of st index stopped) owed → units_for (rows (packages_of to)) ≤ 2 ^ 28)
       → (number : ℕ) → changed_number change (state (d.files a).pkg st) ≡ number
       → (IsTrue d.tells → KeepsSums number (d.files a).pkg (d.files b).pkg st after)
-      → Gathered d a b change (database_of st index stopped) (database_of after index stopped) owed more
+      → GatheredChange d a b change (database_of st index stopped) (database_of after index stopped) owed more
   gathered b after change more field was done idx goes is few drops_are adds_are fits number at_number sums =
       let state_is : IsTrue d.tells → state (d.files b).pkg after ≡ apply change (state (d.files a).pkg st) =
       λ told. state_written (d.files b).pkg after to field (done.stored.blobs_are told) done.field_is ∙ goes in
@@ -92,7 +92,7 @@ module _ {D : Type 0} (d : disk.Ghosts D) (a : D) (st : Store) (index : Option h
             keeps = done.stored.kept told;
             index = subst (λ (u : Units). KeepsUnits u index) (sym (idx told)) (was.serving told).index;
             quiet = done.stored.quiet told;
-            settled = done.settled told;
+            durable = done.durable told;
           };
         };
         generation = done.generation_is;
@@ -115,21 +115,21 @@ module _ {D : Type 0} (d : disk.Ghosts D) (a : D) (st : Store) (index : Option h
             (ap (λ (s : State). units_for (rows s.packages)) (sym (state_is told)));
       }
 
-module _ {D A : Type 0} (d : disk.Ghosts D) (a b : D) (st after : Store) (index : Option hindex.State) (stopped : Bool) (owed more : RowChange)
+module _ {D A : Type 0} (d : disk.Ghosts D) (a b : D) (st after : Store) (index : Option hindex.IndexState) (stopped : Bool) (owed more : RowChange)
     (was : IsGathering d a (database_of st index stopped) owed) (idx : IsTrue d.tells → (d.files b).idx ≡ (d.files a).idx) (result : Result A ChangeFault)
   where
     -- a header under a new number, or one that is there
-    pub gathers_put : (n : Option ℕ) (h : Header) → header h.blob ≡ Ok h → RoomIs (put_in n (length h.blob) (raised st)) st after result
+    pub gathers_put : (n : Option ℕ) (h : Header) → header h.blob ≡ Ok h → RoomIs (put_in n (length h.blob) (raised_store st)) st after result
         → OnOk result (IsPutAside d b st after (put_map (d.files a).pkg st n h.blob) (field_for n st))
         → OnOk result (IsTrue d.tells → KeepsSums (number_for n st) (d.files a).pkg (d.files b).pkg st after)
         → OnOk result (IsTrue d.tells → more ≡ with_rows owed (old_rows n (packages (d.files a).pkg st)) (header_rows (number_for n st) h))
         → (IsTrue d.tells → (from to : finite.FinMap nat_cmp Package) → HasRows from (d.files a).idx
         → Balances (with_rows owed (old_rows n (packages (d.files a).pkg st)) (header_rows (number_for n st) h)) (rows from) (rows to)
         → FullIndexIs (units_for (rows to)) result)
-        → (IsTrue d.tells → AreLawful (d.left_since a (d.moment a)) → LeavesOnly d a b (IsChangedStill (state (d.files a).pkg st)
+        → (IsTrue d.tells → AreLawful (d.left_since a (d.moment a)) → CrashLeavesOnly d a b (IsChangedStill (state (d.files a).pkg st)
         (state_of (put_map (d.files a).pkg st n h.blob) (field_for n st)) (d.left_since a (d.moment a))))
         → Gathers d a b (change_for n h.blob) (database_of st index stopped) (database_of after index stopped) owed more result
-    gathers_put n h own room done sums is full stops =
+    gathers_put n h own room done sums is full crashes =
         let file = (d.files a).pkg in
         let drops = old_rows n (packages file st) in
         let adds = header_rows (number_for n st) h in
@@ -147,19 +147,19 @@ module _ {D A : Type 0} (d : disk.Ghosts D) (a b : D) (st after : Store) (index 
               (added_is file st n h own) (dropped_are file st n h) (sym (added_are file st n h own)) room_left
               (number_for n st) (changed_is file st n h.blob) kept) done sums is (fits_ok (units_for (rows (packages_of to))) result fits);
           full = λ told o. subst (λ (s : State). FullIndexIs (units_for (rows s.packages)) result) goes (fits told o);
-          stops = λ told lawful. subst (λ (s : State). LeavesOnly d a b (IsChangedStill (state file st) s images)) goes (stops told lawful);
+          crashes = λ told lawful. subst (λ (s : State). CrashLeavesOnly d a b (IsChangedStill (state file st) s images)) goes (crashes told lawful);
         }
 
     -- a number that is taken out
-    pub gathers_erase : (n : ℕ) → RoomIs (Some (erased n (raised st))) st after result
+    pub gathers_erase : (n : ℕ) → RoomIs (Some (without_number n (raised_store st))) st after result
         → OnOk result (IsPutAside d b st after (finite.remove (blobs (d.files a).pkg st) n) st.field)
         → OnOk result (IsTrue d.tells → KeepsSums n (d.files a).pkg (d.files b).pkg st after)
         → OnOk result (IsTrue d.tells → more ≡ record { drops = owed.drops ++ old_rows (Some n) (packages (d.files a).pkg st); adds = owed.adds })
         → ((needed : ℕ) → needed ≤ 2 ^ 28 → FullIndexIs needed result)
-        → (IsTrue d.tells → AreLawful (d.left_since a (d.moment a)) → LeavesOnly d a b (IsChangedStill (state (d.files a).pkg st)
+        → (IsTrue d.tells → AreLawful (d.left_since a (d.moment a)) → CrashLeavesOnly d a b (IsChangedStill (state (d.files a).pkg st)
         (state_of (finite.remove (blobs (d.files a).pkg st) n) st.field) (d.left_since a (d.moment a))))
         → Gathers d a b (Erase n) (database_of st index stopped) (database_of after index stopped) owed more result
-    gathers_erase n room done sums is full stops =
+    gathers_erase n room done sums is full crashes =
         let file = (d.files a).pkg in
         let gone = old_rows (Some n) (packages file st) in
         let left = finite.remove (blobs file st) n in
@@ -177,5 +177,5 @@ module _ {D A : Type 0} (d : disk.Ghosts D) (a b : D) (st after : Store) (index 
               (λ told. gathers told ∙ ap (λ (rs : List Row). record { drops = owed.drops ++ gone; adds = rs }) (sym (append-nil owed.adds))) (sym live_none)
               refl refl fits n refl kept) done sums is;
           full = λ told o. subst (λ (s : State). FullIndexIs (units_for (rows s.packages)) result) goes (full _ (fits told o));
-          stops = λ told lawful. subst (λ (s : State). LeavesOnly d a b (IsChangedStill (state file st) s images)) goes (stops told lawful);
+          crashes = λ told lawful. subst (λ (s : State). CrashLeavesOnly d a b (IsChangedStill (state file st) s images)) goes (crashes told lawful);
         }

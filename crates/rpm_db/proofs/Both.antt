@@ -1,8 +1,8 @@
 -- The log stays where another file changes, and the store stays quiet while the index does.
 use Rattle.std.proofs.Common.{◌≡◌, ℕ, refl, sym, ◌∙◌, subst, arith}
 use Rattle.std.specs.Prelude.{IsTrue}
-use Rattle.rpm_db.proofs.Vocabulary.{bytes_for, CameOf, Changed, Changes, File, Files, Idx, images, IsQuiet, leaves_weaker, Log, OnlyIn, Pkg, Runs, runs_then}
-use Rattle.rpm_db.proofs.Vocabulary.{SameLog, StandsAs, Store, Units}
+use Rattle.rpm_db.proofs.Vocabulary.{bytes_for, ImageFrom, IsImageOfChange, Changes, File, Files, Idx, images, IsQuiet, leaves_weaker, Log, OnlyIn, Pkg, Runs, runs_then}
+use Rattle.rpm_db.proofs.Vocabulary.{SameLog, RepresentsStore, Store, Units}
 use Rattle.rpm_outside.specs.declared.disk.Disk as disk
 
 module _ {D : Type 0} (d : disk.Ghosts D) where
@@ -13,12 +13,12 @@ module _ {D : Type 0} (d : disk.Ghosts D) where
   runs_log : (file : File) (R : Units → Units → Type 0) (most : ℕ) (a b : D) → ((x y : Units) → OnlyIn file R Log x y → y ≡ x)
       → bytes_for file Log most ≡ 0 → Run file R most a b → Runs d SameLog a b
   runs_log file R most a b only none run =
-      let later : (image : Files) → Changed file R (images d a) image → CameOf SameLog (images d a) image =
+      let later : (image : Files) → IsImageOfChange file R (images d a) image → ImageFrom SameLog (images d a) image =
       λ image c. record { from = c.from; was = c.was; came = only c.from.log image.log c.log } in
       record {
         reads_as = λ told. only (d.files a).log (d.files b).log (run.log told);
         now = λ told image left. later image (run.now told image left);
-        any_moment = λ told. leaves_weaker d a b (Changed file R (images d a)) (CameOf SameLog (images d a)) later (run.any_moment told);
+        any_moment = λ told. leaves_weaker d a b (IsImageOfChange file R (images d a)) (ImageFrom SameLog (images d a)) later (run.any_moment told);
         reads = record { no_less = run.reads.no_less; log = omega (arith, run.reads.log, none) };
         goes_on = run.goes_on;
       }
@@ -41,4 +41,5 @@ module _ {D : Type 0} (d : disk.Ghosts D) where
       → IsQuiet value (d.files c) (images d c)
   quiet_then told value S n b c run quiet image here =
       let s = run.now told image here in
-      subst (λ (u : Units). StandsAs value u image.pkg) (sym (run.pkg told)) (subst (StandsAs value (d.files b).pkg) (sym s.pkg) (quiet s.from s.was))
+      subst (λ (u : Units). RepresentsStore value u image.pkg) (sym (run.pkg told))
+      (subst (RepresentsStore value (d.files b).pkg) (sym s.pkg) (quiet s.from s.was))

@@ -3,17 +3,17 @@ use Rattle.std.proofs.Common.{◌≡◌, inl, inr, ℕ, ◌+◌, ◌<◌, ◌≤
 use Rattle.std.specs.FinMap as finite
 use Rattle.rpm_db.proofs.Vocabulary.{Agrees, BlobMap, BlobsTo, buckets_of, Files, HasRows, IndexTo, is_current, is_current_at, is_in_order, IsBetween}
 use Rattle.rpm_db.proofs.Vocabulary.{IsChangedStill, IsLawful, IsOfRows, IsSealedAfter, IsWellFormed, nat_cmp, Package, packages, packages-blobs, packages_of}
-use Rattle.rpm_db.proofs.Vocabulary.{records, Row, rows, SameRows, sealed, StandsFor, state, state_with, Store, unit_at, Units, void_agrees, Work, WritesRows}
+use Rattle.rpm_db.proofs.Vocabulary.{records, Row, rows, SameRows, sealed, Represents, state, state_with, Store, unit_at, Units, void_agrees, Work, WritesRows}
 use Rattle.std.proofs.lemmas.Bool.{and_parts}
 use Rattle.std.proofs.lemmas.Bool.Decides.{nat_tests}
-use Rattle.rpm_hindex.specs.State.{state_of}
+use Rattle.rpm_hindex.specs.State.{opened_state}
 use Rattle.rpm_db.specs.inner.Writes as writes
 
 -- the packages of an image, and its state
-image_packages : (g f : ℕ) (B : BlobMap) (image : Units) (s : StandsFor g f B image) → packages image s.value ≡ packages_of B
+image_packages : (g f : ℕ) (B : BlobMap) (image : Units) (s : Represents g f B image) → packages image s.value ≡ packages_of B
 image_packages g f B image s = packages-blobs image s.value ∙ ap packages_of s.blobs_are
 
-image_state : (g f : ℕ) (B : BlobMap) (image : Units) (s : StandsFor g f B image) → state image s.value ≡ writes.state_of B f
+image_state : (g f : ℕ) (B : BlobMap) (image : Units) (s : Represents g f B image) → state image s.value ≡ writes.state_of B f
 image_state g f B image s =
     ap (λ (p : finite.FinMap nat_cmp Package). state_with p s.value.field) (image_packages g f B image s)
     ∙ ap (state_with (packages_of B)) s.field_is
@@ -23,7 +23,7 @@ pub earlier_agrees : (value : Store) (pkg idx : Units) → sealed (unit_at idx 0
 unfolding is_current
 earlier_agrees value pkg idx early = record {
   rows_are = λ current.
-      (let at = (and_parts (eqb (sealed (unit_at idx 0)) value.generation) (is_in_order (state_of idx)) current).0 in
+      (let at = (and_parts (eqb (sealed (unit_at idx 0)) value.generation) (is_in_order (opened_state idx)) current).0 in
       let is : sealed (unit_at idx 0) ≡ value.generation = grind (arith, nat_tests) in
       absurd (omega (arith, early, is)));
   no_later = omega (arith, early);
@@ -37,7 +37,7 @@ pub record Fits (g : ℕ) (B : BlobMap) (idx : Units) : Type 0 where
 pub fits_now : (g : ℕ) (B : BlobMap) (idx : Units) → sealed (unit_at idx 0) ≡ g → HasRows (packages_of B) idx → Fits g B idx
 fits_now g B idx at has = record { behind = omega (arith, at); rows_are = λ current. has }
 
-now_lawful : (g f : ℕ) (B : BlobMap) (pkg idx : Units) → StandsFor g f B pkg → Fits g B idx → IsLawful pkg idx
+now_lawful : (g f : ℕ) (B : BlobMap) (pkg idx : Units) → Represents g f B pkg → Fits g B idx → IsLawful pkg idx
 now_lawful g f B pkg idx s fits = inr (
   s.value,
   s.undamaged,
@@ -49,7 +49,7 @@ now_lawful g f B pkg idx s fits = inr (
   },
 )
 
-later_lawful : (g f : ℕ) (B : BlobMap) (pkg idx : Units) → StandsFor g f B pkg → sealed (unit_at idx 0) < g → IsLawful pkg idx
+later_lawful : (g f : ℕ) (B : BlobMap) (pkg idx : Units) → Represents g f B pkg → sealed (unit_at idx 0) < g → IsLawful pkg idx
 later_lawful g f B pkg idx s early = inr (s.value, s.undamaged, earlier_agrees s.value pkg idx (omega (arith, early, s.generation_is)))
 
 -- the index that is sealed after a change
@@ -96,13 +96,13 @@ module _ (g f next : ℕ) (B after : BlobMap) (index : Units) (fits : Fits g B i
   Still = IsChangedStill (writes.state_of B f) (writes.state_of after next) images
 
   -- while the store is written
-  pub store_stop : (image from : Files) → images from → image.idx ≡ index → image.log ≡ from.log → BlobsTo g f next B after image.pkg → Still image
-  store_stop image from was idx log to = either to
+  pub store_crash : (image from : Files) → images from → image.idx ≡ index → image.log ≡ from.log → BlobsTo g f next B after image.pkg → Still image
+  store_crash image from was idx log to = either to
     where
       early : sealed (unit_at image.idx 0) < g + 1
       early = omega (arith, ap (λ (u : Units). sealed (unit_at u 0)) idx, fits.behind)
 
-      still : {h k : ℕ} {C : BlobMap} → StandsFor h k C image.pkg → IsLawful image.pkg image.idx
+      still : {h k : ℕ} {C : BlobMap} → Represents h k C image.pkg → IsLawful image.pkg image.idx
           → IsBetween (writes.state_of B f) (writes.state_of after next) (writes.state_of C k) → Still image
       still s lawful is = record {
         from = from;
@@ -124,7 +124,7 @@ module _ (g f next : ℕ) (B after : BlobMap) (index : Units) (fits : Fits g B i
 
   -- while the index is: the store says what it will
   module _ (work : Work) (writes_rows : WritesRows (rows (packages_of after)) work index) where
-    index_lawful : (pkg mid idx : Units) → StandsFor (g + 1) next after pkg → mid ≡ index → IndexTo (g + 1) work index mid idx → IsLawful pkg idx
+    index_lawful : (pkg mid idx : Units) → Represents (g + 1) next after pkg → mid ≡ index → IndexTo (g + 1) work index mid idx → IsLawful pkg idx
     index_lawful pkg mid idx s same (inl void) = inr (s.value, s.undamaged, void_agrees s.value pkg idx void)
     index_lawful pkg mid idx s same (inr (inl seal)) =
         later_lawful (g + 1) next after pkg idx s (omega (arith, ap sealed seal, ap (λ (u : Units). sealed (unit_at u 0)) same, fits.behind))
@@ -132,10 +132,10 @@ module _ (g f next : ℕ) (B after : BlobMap) (index : Units) (fits : Fits g B i
         let r = rows_sealed (g + 1) (packages_of after) work index idx writes_rows sealed_is in
         now_lawful (g + 1) next after pkg idx s (fits_now (g + 1) after idx r.1 r.0)
 
-    pub index_stop : (image from mid : Files) → images from → mid.log ≡ from.log → mid.idx ≡ index → StandsFor (g + 1) next after mid.pkg
+    pub index_crash : (image from mid : Files) → images from → mid.log ≡ from.log → mid.idx ≡ index → Represents (g + 1) next after mid.pkg
         → image.pkg ≡ mid.pkg → image.log ≡ mid.log → IndexTo (g + 1) work index mid.idx image.idx → Still image
-    index_stop image from mid was log idx stands pkg same_log to =
-        let s = subst (StandsFor (g + 1) next after) (sym pkg) stands in
+    index_crash image from mid was log idx stands pkg same_log to =
+        let s = subst (Represents (g + 1) next after) (sym pkg) stands in
         record {
           from = from;
           was = was;

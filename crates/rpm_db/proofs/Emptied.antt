@@ -1,15 +1,15 @@
 -- A database without packages, while it is made.
 use Rattle.std.proofs.Common.{◌≡◌, ℕ, zero, suc, List, [], length, replicate, map, not, ◌==◌, Option, Some, None, Ok, Err, refl, sym, ap, ◌∙◌, inl, inr, arith}
-use Rattle.rpm_db.proofs.Vocabulary.{begins, blank_store, blobs, bucket_count, entry_of, filter, free, get-packages, head_reason, in_file, is_blank, is_used}
+use Rattle.rpm_db.proofs.Vocabulary.{begins_with_word, blank_store, blobs, bucket_count, entry_of_slot, filter, free, get-packages, head_reason, in_file, is_blank, is_used}
 use Rattle.rpm_db.proofs.Vocabulary.{IsEmpty, IsUnsealed, IsWellFormed, live_of, made_new, made_or_damaged, made_store, option_map, package_of, packages}
-use Rattle.rpm_db.proofs.Vocabulary.{Reason, records, RewriteFault, Row, rows, rows_at, SameRows, Store, store, table, table_fault, times}
+use Rattle.rpm_db.proofs.Vocabulary.{Reason, records, RewriteFault, Row, rows, rows_at, SameRows, Store, store, slot_units, table_fault, times}
 use Rattle.rpm_db.proofs.Vocabulary.{times-rows, unit_at, Units, units_for, unless, word}
 use Rattle.std.specs.Prelude.{codes}
 use Rattle.std.specs.FinMap as finite
 use Rattle.std.proofs.lemmas.Bool.{cases_Bool}
 use Rattle.rpm_pkgdb.specs.Store as pkgdb
 use Rattle.rpm_hindex.specs.declared.faults.RewriteFault.TheVariants as rewrite
-use Rattle.rpm_hindex.specs.Rewrites.{IsFull}
+use Rattle.rpm_hindex.specs.Rewrites.{IsIndexFull}
 
 -- a store of no pages is a blank one
 passed : {X E : Type 0} (o : Option E) (x y : X) → unless o x ≡ Ok y → x ≡ y
@@ -20,7 +20,7 @@ pages_some : (units : ℕ) (head : List ℕ) → head_reason units head ≡ None
 unfolding head_reason
 pages_some units head none zero_pages =
     let n = rw zero_pages at none in
-    elim (cases_Bool (not (begins (codes "RpmP") head))) [
+    elim (cases_Bool (not (begins_with_word (codes "RpmP") head))) [
       | inl a ↦ (let m = rw a at n in absurd cc)
       | inr a ↦ elim (cases_Bool (not (word 1 head == 0))) [
         | inl b ↦ (let m = rw (a, b) at n in absurd cc)
@@ -33,7 +33,7 @@ some_pages : (r : Option Reason) (file : Units) (value : Store) → head_reason 
 some_pages (Some reason) file value head is none = absurd cc
 some_pages None file value head is none =
     let pages = word 3 (unit_at file 0) in
-    let same : made_store pages file ≡ value = passed (table_fault pages (length file) (table pages file)) (made_store pages file) value is in
+    let same : made_store pages file ≡ value = passed (table_fault pages (length file) (slot_units pages file)) (made_store pages file) value is in
     pages_some (length file) (unit_at file 0) head (ap (λ (s : Store). s.pages) same ∙ none)
 
 pub blank_is : (file : Units) (value : Store) → store file ≡ Ok value → value.pages ≡ 0 → store file ≡ Ok blank_store
@@ -44,7 +44,7 @@ blank_is file value is none = elim (cases_Bool (is_blank file)) [
 ]
 
 -- no package, whatever the file
-pub unused : (file : Units) (n : ℕ) → map (entry_of file) (filter is_used (replicate n free)) ≡ []
+pub unused : (file : Units) (n : ℕ) → map (entry_of_slot file) (filter is_used (replicate n free)) ≡ []
 unused file zero = refl
 unused file (suc n) = unused file n
 
@@ -63,7 +63,7 @@ no_rows file value none row =
     ∙ ap (λ o. times row (rows_at row.number o)) (get-packages file value row.number ∙ ap (option_map package_of)
     (ap (λ m. finite.get m row.number) none ∙ finite.get-empty _ row.number))
 
-pub empty_unsealed : (buckets : ℕ) (pkg idx : Units) (value : Store) → pkgdb.Keeps pkg (made_new value) → IsWellFormed buckets idx
+pub empty_unsealed : (buckets : ℕ) (pkg idx : Units) (value : Store) → pkgdb.KeepsStore pkg (made_new value) → IsWellFormed buckets idx
     → SameRows [] (records buckets idx) → IsUnsealed 1 buckets pkg idx
 empty_unsealed buckets pkg idx value keeps whole same = record {
   value = in_file (made_new value);
@@ -78,7 +78,7 @@ small : units_for [] ≡ 18
 unfolding live_of bucket_count
 small = refl
 
-pub never_full : (rs : List Row) → rs ≡ [] → (fault : RewriteFault) → IsFull {T = Unit {0}} (units_for rs) (Err fault) → (needed : ℕ)
+pub never_full : (rs : List Row) → rs ≡ [] → (fault : RewriteFault) → IsIndexFull {T = Unit {0}} (units_for rs) (Err fault) → (needed : ℕ)
     → fault ≡ rewrite.IndexFull needed → ⊥
 never_full rs none (rewrite.IndexFull told) full needed is = omega (arith, full.0, ap units_for none, small)
 never_full rs none rewrite.DiskFault full needed is = absurd cc

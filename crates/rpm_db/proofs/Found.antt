@@ -2,17 +2,17 @@
 use Rattle.std.proofs.Common.{◌≡◌, ℕ, ◌<◌, ◌%◌, List, Ok, Err, Result, true, ◌∙◌, arith, eqb}
 use Rattle.std.specs.Prelude.{IfOk, IfErr, IsOk}
 use Rattle.std.proofs.lemmas.Bool.{and_parts}
-use Rattle.rpm_db.proofs.Vocabulary.{AreHits, buckets_of, chain, FindFault, FindIs, Hit, index_in, is_current, is_headed, is_in_order, is_ordered, IsOutside}
-use Rattle.rpm_db.proofs.Vocabulary.{IsWellFormed, Row, row_of_hit, SameRows, sealed, State, Units}
+use Rattle.rpm_db.proofs.Vocabulary.{AreHits, buckets_of, chain, FindFault, FindIs, Hit, index_in, is_current, is_headed, is_in_order, is_ordered, IsOutsideIndex}
+use Rattle.rpm_db.proofs.Vocabulary.{IsWellFormed, Row, row_of_hit, SameRows, sealed, IndexState, Units}
 use Rattle.rpm_hindex.specs.declared.faults.FindFault.TheVariants.{BadIndex, DiskFault, NoMemory}
 use Rattle.rpm_db.proofs.Making.{ordered_pending}
 
 -- an index that is current at a generation is in order, and has buckets
-pub current_in_order : (generation : ℕ) (s : State) → is_current generation s ≡ true → is_in_order s ≡ true
+pub current_in_order : (generation : ℕ) (s : IndexState) → is_current generation s ≡ true → is_in_order s ≡ true
 unfolding is_current
 current_in_order generation s p = (and_parts (eqb (sealed s.first) generation) (is_in_order s) p).1
 
-pub some_buckets : (s : State) → is_in_order s ≡ true → 0 < buckets_of s.first
+pub some_buckets : (s : IndexState) → is_in_order s ≡ true → 0 < buckets_of s.first
 unfolding is_in_order
 some_buckets s t =
     ordered_pending (buckets_of s.first) s.units s.second (and_parts (is_headed s.first) (is_ordered (buckets_of s.first) s.second s.units) t).1
@@ -31,7 +31,7 @@ no_error (Ok places) unit ok is = absurd cc
 no_error (Err e) unit ok is = absurd cc
 
 -- a chain without a fault answers none
-pub no_bad : {H : Type 0} (P : List ℕ → H → Type 0) (said : Result (List ℕ) ℕ) (r : Result H FindFault) → IsOk said → FindIs P said r → IfErr r IsOutside
+pub no_bad : {H : Type 0} (P : List ℕ → H → Type 0) (said : Result (List ℕ) ℕ) (r : Result H FindFault) → IsOk said → FindIs P said r → IfErr r IsOutsideIndex
 no_bad P said (Ok hits) ok is = tt
 no_bad P said (Err (BadIndex unit)) ok is = no_error said unit ok is
 no_bad P said (Err DiskFault) ok is = tt

@@ -2,17 +2,17 @@
 use Rattle.std.proofs.Common.{◌≡◌, ℕ, ◌+◌, ◌≤◌, true, sym, ap, ◌∙◌, subst}
 use Rattle.std.specs.Prelude.{IsTrue}
 use Rattle.rpm_outside.specs.declared.disk.Disk as disk
-use Rattle.rpm_db.proofs.Vocabulary.{Anything, AreLawful, AreRead, BlobMap, blobs, BlobsTo, CanChange, Changes, Files, Idx, images, IndexTo, IsApplied}
-use Rattle.rpm_db.proofs.Vocabulary.{IsChangedStill, IsLawful, IsQuiet, IsSealedAfter, IsSettled, IsStored, Keeps, LeavesIn, packages_of, Pkg, rows, Runs}
-use Rattle.rpm_db.proofs.Vocabulary.{SameFiles, StandsFor, state, state-blobs, state_of, Stops, Store, store, Units, Work, WritesRows, HasRows, nat_cmp}
-use Rattle.rpm_db.proofs.Vocabulary.{Package, packages, packages-blobs, Changed, leaves_then, leaves_weaker}
+use Rattle.rpm_db.proofs.Vocabulary.{Anything, AreLawful, AreBothRead, BlobMap, blobs, BlobsTo, CanChange, Changes, Files, Idx, images, IndexTo, IsApplied}
+use Rattle.rpm_db.proofs.Vocabulary.{IsChangedStill, IsLawful, IsQuiet, IsSealedAfter, IsDurable, IsStoreWritten, KeepsStore, CrashLeaves, packages_of, Pkg, rows, Runs}
+use Rattle.rpm_db.proofs.Vocabulary.{SameFiles, Represents, state, state-blobs, state_of, IsTornOnly, Store, store, Units, Work, WritesRows, HasRows, nat_cmp}
+use Rattle.rpm_db.proofs.Vocabulary.{Package, packages, packages-blobs, IsImageOfChange, leaves_then, leaves_weaker}
 use Rattle.rpm_db.specs.State.{State}
 use Rattle.std.specs.FinMap as finite
 use Rattle.rpm_hindex.specs.State as hindex
 use Rattle.rpm_db.proofs.Both.{quiet_then}
 use Rattle.rpm_db.proofs.Found.{current_in_order}
-use Rattle.rpm_db.proofs.Unwritten.{quiet_same, settled_same, stops_written}
-use Rattle.rpm_db.proofs.Changed.{Fits, index_stop, rows_sealed, store_stop}
+use Rattle.rpm_db.proofs.Unwritten.{quiet_same, durable_same, crashes_written}
+use Rattle.rpm_db.proofs.Changed.{Fits, index_crash, rows_sealed, store_crash}
 use Rattle.rpm_db.proofs.Raised.{stands_same}
 use Rattle.rpm_db.proofs.Making.{no_later_of_lawful, rows_of_lawful}
 
@@ -30,7 +30,7 @@ rows_written pkg from idx value generation work after is writes sealed =
     (rows_sealed generation (packages_of after) work from idx writes sealed).0
 
 -- the index of lawful files fits the store of the file
-fits_lawful : (pkg idx : Units) (value : Store) → Keeps pkg value → 1 ≤ value.pages → IsLawful pkg idx → Fits value.generation (blobs pkg value) idx
+fits_lawful : (pkg idx : Units) (value : Store) → KeepsStore pkg value → 1 ≤ value.pages → IsLawful pkg idx → Fits value.generation (blobs pkg value) idx
 fits_lawful pkg idx value keeps made lawful = record {
   behind = no_later_of_lawful pkg idx value keeps made lawful;
   rows_are = λ current.
@@ -41,7 +41,7 @@ fits_lawful pkg idx value keeps made lawful = record {
 module _ {D : Type 0} (d : disk.Ghosts D) where
   -- the store stays as it was written while the index changes
   pub stored_then : (value : Store) (was to : BlobMap) (S : Units → Units → Type 0) (n : ℕ) (b c : D) → (IsTrue d.tells → was ≡ to)
-      → Changes d Idx S n b c → IsStored d b value was → IsStored d c value to
+      → Changes d Idx S n b c → IsStoreWritten d b value was → IsStoreWritten d c value to
   stored_then value was to S n b c same run s = record {
     kept = λ told. ap store (run.pkg told) ∙ s.kept told;
     blobs_are = λ told. ap (λ (u : Units). blobs u value) (run.pkg told) ∙ s.blobs_are told ∙ same told;
@@ -49,12 +49,12 @@ module _ {D : Type 0} (d : disk.Ghosts D) where
         quiet_then d told value S n b c run (s.quiet told);
     stands = λ told image here.
         (let moved = run.now told image here in
-        subst (λ (u : Units). StandsFor value.generation value.field (blobs u value) image.pkg) (sym (run.pkg told))
-        (subst (StandsFor value.generation value.field (blobs (d.files b).pkg value)) (sym moved.pkg) (s.stands told moved.from moved.was)));
+        subst (λ (u : Units). Represents value.generation value.field (blobs u value) image.pkg) (sym (run.pkg told))
+        (subst (Represents value.generation value.field (blobs (d.files b).pkg value)) (sym moved.pkg) (s.stands told moved.from moved.was)));
   }
 
   -- the index was changed from what it was before the store was
-  pub applied_since : (before after : hindex.State) (work : Work) (generation told_as : ℕ) (a b c : D)
+  pub applied_since : (before after : hindex.IndexState) (work : Work) (generation told_as : ℕ) (a b c : D)
       → (IsTrue d.tells → (d.files b).idx ≡ (d.files a).idx) → told_as ≡ generation → IsApplied d b c before after told_as work
       → IsApplied d a c before after generation work
   applied_since before after work generation told_as a b c same is s = record {
@@ -62,63 +62,63 @@ module _ {D : Type 0} (d : disk.Ghosts D) where
     grows = s.grows;
     kept = s.kept;
     sealed = λ told. rw (is, same told) at (s.sealed told);
-    settled = s.settled;
+    durable = s.durable;
   }
 
   -- what can be changed can be read
-  pub read_of : (at : D) (value : Store) (index : hindex.State) → CanChange d at value index → AreRead d at value index
+  pub read_of : (at : D) (value : Store) (index : hindex.IndexState) → CanChange d at value index → AreBothRead d at value index
   read_of at value index r = record { order = current_in_order value.generation index r.order; keeps = r.keeps; units = r.units }
 
   -- what crashes leave while the store is written, and then the index, told by the files from before the plan
   module _ (a b e : D) (told : IsTrue d.tells) (lawful : AreLawful (images d a)) (now : images d a (d.files a)) (run : Runs d SameFiles a b) (value : Store)
-      (keeps : Keeps (d.files a).pkg value) (made : 1 ≤ value.pages) (quiet : IsQuiet value (d.files a) (images d a))
-      (settled : IsSettled Idx (d.files a) (images d a)) (next : ℕ) (after : BlobMap)
-      (stops : IsQuiet value (d.files a) (images d b) → LeavesIn d b e (Stops Pkg
+      (keeps : KeepsStore (d.files a).pkg value) (made : 1 ≤ value.pages) (quiet : IsQuiet value (d.files a) (images d a))
+      (durable : IsDurable Idx (d.files a) (images d a)) (next : ℕ) (after : BlobMap)
+      (crashes : IsQuiet value (d.files a) (images d b) → CrashLeaves d b e (IsTornOnly Pkg
       (BlobsTo value.generation value.field next (blobs (d.files a).pkg value) after) (images d b))) where
     abbrev was : BlobMap
     was = blobs (d.files a).pkg value
 
     abbrev Leaves : D → Type 0
-    Leaves x = LeavesIn d a x (IsChangedStill (state (d.files a).pkg value) (state_of after next) (images d a))
+    Leaves x = CrashLeaves d a x (IsChangedStill (state (d.files a).pkg value) (state_of after next) (images d a))
 
-    since : (x : D) → LeavesIn d b x (IsChangedStill (state_of was value.field) (state_of after next) (images d b)) → Leaves x
+    since : (x : D) → CrashLeaves d b x (IsChangedStill (state_of was value.field) (state_of after next) (images d b)) → Leaves x
     since x left =
-        stops_written (state (d.files a).pkg value) (state_of after next) d a b x told lawful run
-        (subst (λ (s : State). LeavesIn d b x (IsChangedStill s (state_of after next) (images d b))) (sym (state-blobs (d.files a).pkg value)) left)
+        crashes_written (state (d.files a).pkg value) (state_of after next) d a b x told lawful run
+        (subst (λ (s : State). CrashLeaves d b x (IsChangedStill s (state_of after next) (images d b))) (sym (state-blobs (d.files a).pkg value)) left)
 
     fits : Fits value.generation was (d.files b).idx
     fits =
         subst (λ (f : Files). Fits value.generation was f.idx) (sym (run.reads_as told))
         (fits_lawful (d.files a).pkg (d.files a).idx value keeps made (lawful (d.files a) now))
 
-    first : LeavesIn d b e (Stops Pkg (BlobsTo value.generation value.field next was after) (images d b))
-    first = stops (rw (run.reads_as told) at (quiet_same d a b told run value quiet))
+    first : CrashLeaves d b e (IsTornOnly Pkg (BlobsTo value.generation value.field next was after) (images d b))
+    first = crashes (rw (run.reads_as told) at (quiet_same d a b told run value quiet))
 
-    still : IsSettled Idx (d.files b) (images d b)
-    still = settled_same d a b told run settled
+    still : IsDurable Idx (d.files b) (images d b)
+    still = durable_same d a b told run durable
 
     abbrev Still : Files → Type 0
     Still = IsChangedStill (state_of was value.field) (state_of after next) (images d b)
 
-    in_store : LeavesIn d b e Still
-    in_store = leaves_weaker d b e (Stops Pkg (BlobsTo value.generation value.field next was after) (images d b)) Still
-        (λ image s. store_stop value.generation value.field next was after (d.files b).idx fits (images d b) image s.from s.was
+    in_store : CrashLeaves d b e Still
+    in_store = leaves_weaker d b e (IsTornOnly Pkg (BlobsTo value.generation value.field next was after) (images d b)) Still
+        (λ image s. store_crash value.generation value.field next was after (d.files b).idx fits (images d b) image s.from s.was
         (s.idx ∙ still s.from s.was) s.log s.pkg) first
 
-    pub half_stops : Leaves e
-    half_stops = since e in_store
+    pub half_crashes : Leaves e
+    half_crashes = since e in_store
 
-    pub both_stop : (c : D) (new : Store) (work : Work) (generation m : ℕ) → WritesRows (rows (packages_of after)) work (d.files a).idx
-        → Changes d Pkg Anything m b e → new.generation ≡ value.generation + 1 → new.field ≡ next → IsStored d e new after → generation ≡ new.generation
+    pub both_crash : (c : D) (new : Store) (work : Work) (generation m : ℕ) → WritesRows (rows (packages_of after)) work (d.files a).idx
+        → Changes d Pkg Anything m b e → new.generation ≡ value.generation + 1 → new.field ≡ next → IsStoreWritten d e new after → generation ≡ new.generation
         → Changes d Idx (IndexTo generation work (d.files e).idx) 0 e c → Leaves c
-    both_stop c new work generation m writes run_store raised field_is stored is run_index =
+    both_crash c new work generation m writes run_store raised field_is stored is run_index =
         let idx = (d.files b).idx in
         let writes_now = subst (λ (f : Files). WritesRows (rows (packages_of after)) work f.idx) (sym (run.reads_as told)) writes in
-        let in_index = subst (λ (u : Units). LeavesIn d e c (Changed Idx (IndexTo (value.generation + 1) work u) (images d e))) (run_store.idx told)
-        (subst (λ (n : ℕ). LeavesIn d e c (Changed Idx (IndexTo n work (d.files e).idx) (images d e))) (is ∙ raised) (run_index.any_moment told)) in
+        let in_index = subst (λ (u : Units). CrashLeaves d e c (IsImageOfChange Idx (IndexTo (value.generation + 1) work u) (images d e))) (run_store.idx told)
+        (subst (λ (n : ℕ). CrashLeaves d e c (IsImageOfChange Idx (IndexTo n work (d.files e).idx) (images d e))) (is ∙ raised) (run_index.any_moment told)) in
         since c (leaves_then d b e c Still in_store
-        (leaves_weaker d e c (Changed Idx (IndexTo (value.generation + 1) work idx) (images d e)) Still (λ image s.
+        (leaves_weaker d e c (IsImageOfChange Idx (IndexTo (value.generation + 1) work idx) (images d e)) Still (λ image s.
         (let m = run_store.now told s.from s.was in
-        index_stop value.generation value.field next was after idx fits (images d b) work writes_now image m.from s.from m.was m.log
+        index_crash value.generation value.field next was after idx fits (images d b) work writes_now image m.from s.from m.was m.log
         (m.idx ∙ still m.from m.was) (stands_same _ _ _ _ _ _ s.from.pkg raised field_is
         (stored.blobs_are told) (stored.stands told s.from s.was)) s.pkg s.log s.idx)) in_index))

@@ -3,13 +3,13 @@ use Rattle.std.proofs.Common.{◌≡◌, ℕ, ◌+◌, ◌≤◌, ◌^◌, ◌==
 use Rattle.std.specs.Prelude.{IsTrue}
 use Rattle.std.proofs.lemmas.Bool.Decides.{nat_tests}
 use Rattle.rpm_outside.specs.declared.disk.Disk as disk
-use Rattle.rpm_db.proofs.Vocabulary.{added, apply, AreLawful, BadCause, BlobMap, CanChange, Change, changed_number, ChangeFault, Database, database_of}
-use Rattle.rpm_db.proofs.Vocabulary.{DiskFault, FullCause, HasRows, images, is_stopping, KeepsSums, IsChangedStill, IsConsistent, IsDone, IsLeft, IsRefusal, IsRefused, IsServing, LeavesIn}
+use Rattle.rpm_db.proofs.Vocabulary.{added_units, apply, AreLawful, BadCause, BlobMap, CanChange, Change, changed_number, ChangeFault, Database, database_of}
+use Rattle.rpm_db.proofs.Vocabulary.{DiskFault, FullCause, HasRows, images, is_stopping, KeepsSums, IsChangedStill, IsConsistent, IsDone, IsLeft, IsRefusal, IsBothRefused, IsServing, CrashLeaves}
 use Rattle.rpm_db.proofs.Vocabulary.{Makes, next_store, packages, packages_of, RoomCause, Row, rows, state, state_of, StaysBetween, Store, units_for, with_spare}
 use Rattle.rpm_hindex.specs.State as hindex
 use Rattle.rpm_db.specs.State.{State}
 use Rattle.rpm_db.proofs.Applied.{held_by}
-use Rattle.rpm_db.proofs.Unwritten.{stops_told}
+use Rattle.rpm_db.proofs.Unwritten.{crashes_told}
 use Rattle.rpm_db.proofs.Refused.{is_refusal, stopping_is}
 use Rattle.rpm_db.proofs.Served.{indexed_as, rows_of_disk, serving_same}
 use Rattle.rpm_db.proofs.Sums.{verdicts_are}
@@ -21,7 +21,7 @@ not_blank_as value some = grind (arith, nat_tests)
 
 module _ {D : Type 0} (d : disk.Ghosts D) where
   -- what is inside a value that can be changed can be
-  pub ready_inside : (at : D) (value : Store) (index : hindex.State) (stopped : Bool) → IsConsistent value (Some index) stopped → stopped ≡ false
+  pub ready_inside : (at : D) (value : Store) (index : hindex.IndexState) (stopped : Bool) → IsConsistent value (Some index) stopped → stopped ≡ false
       → (IsTrue d.tells → IsServing (d.files at) (images d at) (database_of value (Some index) stopped)) → CanChange d at value index
   ready_inside at value index stopped own going s = record {
     going = own.going going;
@@ -30,10 +30,10 @@ module _ {D : Type 0} (d : disk.Ghosts D) where
     keeps = λ told. (s told).keeps;
     units = λ told. (s told).index;
     quiet = λ told. (s told).quiet;
-    settled = λ told. (s told).settled;
+    durable = λ told. (s told).durable;
   }
 
-  module _ (a b : D) (value after : Store) (index changed : hindex.State) (stopped now : Bool) where
+  module _ (a b : D) (value after : Store) (index changed : hindex.IndexState) (stopped now : Bool) where
     abbrev before : Database
     before = database_of value (Some index) stopped
 
@@ -51,7 +51,7 @@ module _ {D : Type 0} (d : disk.Ghosts D) where
         keeps = is.ready.keeps told;
         index = is.ready.units told;
         quiet = is.ready.quiet told;
-        settled = is.ready.settled told;
+        durable = is.ready.durable told;
       };
       refused = tt;
       same = tt;
@@ -62,7 +62,7 @@ module _ {D : Type 0} (d : disk.Ghosts D) where
     -- it stopped at a fault
     pub left_fault : {A : Type 0} (drops : List Row) (kept : Store) (refused_as : Database) (fault : ChangeFault) → 1 ≤ after.pages → now ≡ is_stopping fault
         → (IsTrue d.tells → BadCause drops (d.files a).idx fault) → (stopped ≡ false → IsTrue d.tells → IsServing (d.files a) (images d a) before)
-        → (IsRefusal fault → IsRefused d a b kept after index changed) → (after ≡ kept → after ≡ with_spare after.spare value)
+        → (IsRefusal fault → IsBothRefused d a b kept after index changed) → (after ≡ kept → after ≡ with_spare after.spare value)
         → (IsRefusal fault → database_of after (Some changed) now ≡ refused_as)
         → IsLeft d {A = A} a b before (database_of after (Some changed) now) refused_as (Err fault)
     left_fault drops kept refused_as fault own now_is bad s refusal roomed refused = record {
@@ -81,12 +81,12 @@ module _ {D : Type 0} (d : disk.Ghosts D) where
     }
 
   -- what a change makes
-  module _ (a b : D) (value : Store) (index : hindex.State) (stopped : Bool) (change : Change) (to : BlobMap) (field : ℕ)
+  module _ (a b : D) (value : Store) (index : hindex.IndexState) (stopped : Bool) (change : Change) (to : BlobMap) (field : ℕ)
       (own : IsConsistent value (Some index) stopped) (going : stopped ≡ false)
       (serving : IsTrue d.tells → IsServing (d.files a) (images d a) (database_of value (Some index) stopped))
       (goes : state_of to field ≡ apply change (state (d.files a).pkg value)) (here : IsTrue d.tells → images d a (d.files a))
-      (stops : IsTrue d.tells → AreLawful (images d a) → HasRows (packages (d.files a).pkg value) (d.files a).idx
-      → LeavesIn d a b (IsChangedStill (state (d.files a).pkg value) (state_of to field) (images d a))) where
+      (crashes : IsTrue d.tells → AreLawful (images d a) → HasRows (packages (d.files a).pkg value) (d.files a).idx
+      → CrashLeaves d a b (IsChangedStill (state (d.files a).pkg value) (state_of to field) (images d a))) where
     abbrev old : Database
     old = database_of value (Some index) stopped
 
@@ -95,11 +95,11 @@ module _ {D : Type 0} (d : disk.Ghosts D) where
         let s = serving told in
         let rows_are = rows_of_disk (d.files a).pkg (d.files a).idx value index s.keeps (own.made refl) s.index (own.order going)
         (lawful (d.files a) (here told)) in
-        stops_told d a b (images d a) _ _ _ _ refl goes (stops told lawful rows_are)
+        crashes_told d a b (images d a) _ _ _ _ refl goes (crashes told lawful rows_are)
 
-    pub makes_done : {A : Type 0} (after : Store) (changed : hindex.State) (least : ℕ) (done : A)
+    pub makes_done : {A : Type 0} (after : Store) (changed : hindex.IndexState) (least : ℕ) (done : A)
         → next_store change value ≡ Some (with_spare value.spare after) → IsDone d a b value after changed to field least
-        → least ≤ index.units + added (state (d.files a).pkg value) change
+        → least ≤ index.units + added_units (state (d.files a).pkg value) change
         → (IsTrue d.tells → HasRows (packages (d.files a).pkg value) (d.files a).idx → units_for (rows (packages_of to)) ≤ 2 ^ 28)
         → (number : ℕ) → changed_number change (state (d.files a).pkg value) ≡ number
         → (IsTrue d.tells → KeepsSums number (d.files a).pkg (d.files b).pkg value after)
@@ -123,7 +123,7 @@ module _ {D : Type 0} (d : disk.Ghosts D) where
             );
       };
       full = λ told runs was. subst (λ (s : State). units_for (rows s.packages) ≤ 2 ^ 28) goes (full told was.rows_are);
-      stops = between;
+      crashes = between;
     }
 
     pub makes_fault : {A : Type 0} (after : Database) (fault : ChangeFault) → RoomCause (next_store change value) fault
@@ -133,5 +133,5 @@ module _ {D : Type 0} (d : disk.Ghosts D) where
       room = room;
       changed = tt;
       full = λ told runs was. subst (λ (s : State). FullCause (units_for (rows s.packages)) fault) goes (full told was.rows_are);
-      stops = between;
+      crashes = between;
     }

@@ -1,13 +1,13 @@
 pub mod Answers
 pub mod Faults
-pub mod FillStops
+pub mod FillCrashes
 pub mod Rowing
 pub mod Making
 pub mod Opened
 pub mod Found
 pub mod Rebuilt
 pub mod Emptied
-pub mod EmptyStops
+pub mod EmptyCrashes
 pub mod Results
 pub mod Stays
 pub mod Sums
@@ -37,3 +37,4 @@ pub mod Batched
 pub mod Apart
 pub mod VerdictLaws
 pub mod Vocabulary
+pub mod LawfulLaws

@@ -2,12 +2,11 @@
 use Rattle.std.proofs.Common.{◌≡◌, ◌⊎◌, ℕ, zero, suc, ◌<◌, ◌≤◌, ◌∷◌, [], List, length, true, Ok, refl, sym, ap, ◌∙◌, subst, inl, inr, arith}
 use Rattle.std.proofs.lemmas.Bool.Decides.{nat_tests}
 use Rattle.rpm_db.proofs.Vocabulary.{blank, blobs, bytes_for, Changes, File, Files, HasRows, Idx, in_file, is_bucket_count, is_current, is_current_at}
-use Rattle.rpm_db.proofs.Vocabulary.{IsIndexOf, IsLawful, IsOfRows, IsSealed, IsUnsealed, IsWellFormed, packages, put, records, Remade, Row, rows, SameRows}
-use Rattle.rpm_db.proofs.Vocabulary.{seal_unit, sealed, SealedOrSame, State, Store, store, unit_at, Units, VoidOrSame}
-use Rattle.rpm_db.proofs.Vocabulary.{is_in_order, is_ordered, Log, Looks, remade_none, remade_then, Runs, runs_index, runs_looks, runs_then}
+use Rattle.rpm_db.proofs.Vocabulary.{IsIndexOf, IsLawful, IsOfRows, IsSealed, IsUnsealed, IsWellFormed, packages, with_units, records, Remade, Row, rows, SameRows}
+use Rattle.rpm_db.proofs.Vocabulary.{seal_unit, sealed, SealedOrSame, IndexState, Store, store, unit_at, Units, VoidOrSame}
+use Rattle.rpm_db.proofs.Vocabulary.{is_in_order, is_ordered, Log, OnlyReads, remade_none, remade_then, Runs, runs_index, runs_looks, runs_then}
 use Rattle.rpm_outside.specs.declared.disk.Disk as disk
 use Rattle.rpm_hindex.specs.State as hindex
-use Rattle.rpm_hindex.specs.State.{state_of}
 
 -- numbers in order are those of a file that has units
 pub ordered_some : (buckets units : ℕ) (second : List ℕ) → is_ordered buckets second units ≡ true → 1 ≤ units
@@ -37,7 +36,7 @@ pub record CanSeal (g buckets : ℕ) (idx : Units) (f : Files) : Type 0 where
   pub same : f.idx ≡ idx
   pub written : IsUnsealed g buckets f.pkg idx
   pub some : 1 ≤ length idx
-  pub seal : IsSealed g buckets idx (put 0 (seal_unit g buckets ∷ []) idx)
+  pub seal : IsSealed g buckets idx (with_units 0 (seal_unit g buckets ∷ []) idx)
 
 -- a sealing write that was cut short, or not
 pub sealing : (g buckets : ℕ) (idx : Units) (from image : Files) → CanSeal g buckets idx from → image.pkg ≡ from.pkg
@@ -48,12 +47,12 @@ sealing g buckets idx from image m pkg seal log = record {
   idx = either (seal (subst (λ (u : Units). 1 ≤ length u) (sym m.same) m.some));
 }
   where
-    either : (image.idx ≡ from.idx) ⊎ (image.idx ≡ put 0 (seal_unit g buckets ∷ []) from.idx)
+    either : (image.idx ≡ from.idx) ⊎ (image.idx ≡ with_units 0 (seal_unit g buckets ∷ []) from.idx)
         → (image.idx ≡ from.idx) ⊎ ((unit_at image.idx 0 ≡ blank) ⊎ IsIndexOf image.pkg image.idx)
     either (inl same) = inl same
     either (inr new) = inr (inr (subst (λ (p : Units). IsIndexOf p image.idx) (sym pkg)
         (sealed_index g buckets from.pkg idx image.idx m.written (subst (IsSealed g buckets idx)
-        (sym (new ∙ ap (λ (u : Units). put 0 (seal_unit g buckets ∷ []) u) m.same)) m.seal))))
+        (sym (new ∙ ap (λ (u : Units). with_units 0 (seal_unit g buckets ∷ []) u) m.same)) m.seal))))
 
 -- an index that is made from scratch
 pub voiding : (from image : Files) → Unit {0} → image.pkg ≡ from.pkg → VoidOrSame from.idx image.idx → image.log ≡ from.log → Remade from image
@@ -65,7 +64,7 @@ voiding from image m pkg void log = record { pkg = pkg; log = log; idx = either 
 
 -- runs of calls that leave the packages, and make the index anew at most
 module _ {D : Type 0} (d : disk.Ghosts D) where
-  pub remade_look : {file : File} {n : ℕ} {a b : D} → Looks d file n a b → bytes_for file Log n ≡ 0 → Runs d Remade a b
+  pub remade_look : {file : File} {n : ℕ} {a b : D} → OnlyReads d file n a b → bytes_for file Log n ≡ 0 → Runs d Remade a b
   remade_look {file} {n} {a} {b} looks none = runs_looks d Remade remade_none file n a b none looks
 
   pub remade_void : {a b : D} → Changes d Idx VoidOrSame 0 a b → Runs d Remade a b
@@ -116,6 +115,6 @@ no_later_of_lawful pkg idx value keeps made (inr is) =
     omega (arith, is.2.no_later, ap (λ (s : Store). s.generation) (same_store pkg is.0 (in_file value) is.1 keeps))
 
 -- whether a value's units are current is whether its file's are
-pub current_same : (g : ℕ) (idx : Units) (s : State) → hindex.Keeps idx s → is_current g s ≡ is_current_at g idx
+pub current_same : (g : ℕ) (idx : Units) (s : IndexState) → hindex.KeepsIndexValue idx s → is_current g s ≡ is_current_at g idx
 unfolding is_current is_in_order
 current_same g idx s keeps = rw (keeps.first, keeps.second, keeps.units) refl

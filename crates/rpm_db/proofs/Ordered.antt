@@ -1,6 +1,6 @@
 -- Rows in order.
 use Rattle.std.proofs.Common.{◌≡◌, ℕ, suc, ◌+◌, ◌≤◌, ◌<◌, Bool, true, false, nat_eq, List, [], ◌∷◌, drop, length, map, take, ◌++◌, cond, get_or, refl, sym, ap, ◌∙◌, subst, ◌⊎◌, inl, inr, arith, length-drop}
-use Rattle.rpm_db.proofs.Vocabulary.{AreInOrder, AreNetted, is_before, nat_cmp, no_row, Row, RowChange, row_cmp, row_nth, row_of, same_row, SameRows, Standing, times, times-append}
+use Rattle.rpm_db.proofs.Vocabulary.{AreInOrder, AreNetted, is_row_before, nat_cmp, no_row, Row, RowChange, row_cmp, row_nth, row_of, same_row, SameRows, Standing, times, times-append}
 use Rattle.rpm_db.proofs.Vocabulary.{times_none, times_one}
 use Rattle.std.specs.Cmp.{IsTotalOrder, unsigned_tied}
 use Rattle.std.specs.Cmp.Lexicographic.{slice_cmp}
@@ -13,7 +13,7 @@ use Rattle.std.proofs.lemmas.Cmp.{nat_cmp_total, nat_list_cmp_total, on_total, t
 use Rattle.std.proofs.lemmas.List.{get_or_default, get_or-drop, get_or-map, length-map, map-append, take_more}
 use Rattle.std.proofs.lemmas.List.Sorted.{IsPermutation-map, ranks_by, sorted_far, sum_by-IsPermutation}
 use Rattle.std.proofs.lemmas.Map.Text.{is_eq-slice_cmp}
-use Rattle.rpm_hindex.specs.inner.RowLaws.{same_is}
+use Rattle.rpm_hindex.specs.laws.RowLaws.{same_is}
 
 row_total : IsTotalOrder row_cmp
 row_total =
@@ -39,13 +39,13 @@ equal_same a b is =
     and_from _ _ (number_equal a.kind b.kind q.0) (and_from _ _ (sym (is_eq-slice_cmp a.key b.key) ∙ ap is_eq s.1)
     (and_from _ _ (number_equal a.number b.number p.0) (number_equal a.place b.place s.0)))
 
-turn : (d a : Row) (o : Ordering) → row_cmp d a ≡ o → is_lt o ≡ false → same_row d a ≡ false → is_before a d ≡ true
+turn : (d a : Row) (o : Ordering) → row_cmp d a ≡ o → is_lt o ≡ false → same_row d a ≡ false → is_row_before a d ≡ true
 turn d a Less is behind other = absurd cc
 turn d a Equal is behind other = absurd (let same = equal_same d a is in cc)
 turn d a Greater is behind other = ap is_lt (row_total.antisymm a d ∙ ap ordering_reverse is)
 
 -- a row that another is neither before nor the same as comes before it
-pub turned : (d a : Row) → is_before d a ≡ false → same_row d a ≡ false → is_before a d ≡ true
+pub turned : (d a : Row) → is_row_before d a ≡ false → same_row d a ≡ false → is_row_before a d ≡ true
 turned d a behind other = turn d a (row_cmp d a) refl behind other
 
 -- ---- a row that comes before row i is none of those from row i on
@@ -57,19 +57,19 @@ none_each r (x ∷ xs) each =
     let rest : times r xs ≡ 0 = none_each r xs (λ j below. each (suc j) (omega (arith, below))) in
     omega (arith, times-append r (x ∷ []) xs, none, rest)
 
-apart_from : (r : Row) (rows : List Row) (i j : ℕ) → AreInOrder rows → i ≤ j → j < length rows → is_before r (row_nth rows i) ≡ true
+apart_from : (r : Row) (rows : List Row) (i j : ℕ) → AreInOrder rows → i ≤ j → j < length rows → is_row_before r (row_nth rows i) ≡ true
     → same_row r (row_nth rows j) ≡ false
 apart_from r rows i j order le within before = elim (cases_Bool (same_row r (row_nth rows j))) [
   | inr other ↦ other
   | inl same ↦
       let is : r ≡ row_nth rows j = same_is r (row_nth rows j) same in
-      let far : is_before (row_nth rows j) (row_nth rows i) ≡ false =
+      let far : is_row_before (row_nth rows j) (row_nth rows i) ≡ false =
       sorted_far (λ x y. is_lt (row_cmp x y)) (ranks_by row_total (λ x. x)) rows order i j no_row le within in
-      let here : is_before (row_nth rows j) (row_nth rows i) ≡ true = subst (λ (q : Row). is_before q (row_nth rows i) ≡ true) is before in
+      let here : is_row_before (row_nth rows j) (row_nth rows i) ≡ true = subst (λ (q : Row). is_row_before q (row_nth rows i) ≡ true) is before in
       absurd (let both : true ≡ false = sym here ∙ far in cc)
 ]
 
-pub none_from : (r : Row) (rows : List Row) (i : ℕ) → AreInOrder rows → i < length rows → is_before r (row_nth rows i) ≡ true → times r (drop i rows) ≡ 0
+pub none_from : (r : Row) (rows : List Row) (i : ℕ) → AreInOrder rows → i < length rows → is_row_before r (row_nth rows i) ≡ true → times r (drop i rows) ≡ 0
 none_from r rows i order within before = none_each r (drop i rows) (λ j below.
     ap (same_row r) (get_or-drop i rows j no_row)
     ∙ apart_from r rows i (i + j) order (omega arith) (omega (arith, below, length-drop i rows, within)) before)
@@ -77,15 +77,15 @@ none_from r rows i order within before = none_each r (drop i rows) (λ j below.
 -- ---- rows that were sorted
 
 module _ (all : List Standing) where
-  sorted_at : IsSortedBy (λ x y. is_before (row_of x) (row_of y)) all → (d : Standing) → AreInOrder (map row_of all)
+  sorted_at : IsSortedBy (λ x y. is_row_before (row_of x) (row_of y)) all → (d : Standing) → AreInOrder (map row_of all)
   sorted_at up d k e low high =
       let long : k + 1 < length all = omega (arith, high, length-map all row_of) in
       let first = get_or-map row_of all k d e (omega (arith, long)) in
       let second = get_or-map row_of all (k + 1) d e long in
-      ap (λ (r : Row). is_before r (get_or (map row_of all) k e)) second
-      ∙ ap (is_before (row_of (get_or all (k + 1) d))) first ∙ up k d low long
+      ap (λ (r : Row). is_row_before r (get_or (map row_of all) k e)) second
+      ∙ ap (is_row_before (row_of (get_or all (k + 1) d))) first ∙ up k d low long
 
-pub sorted_rows : (all : List Standing) → IsSortedBy (λ x y. is_before (row_of x) (row_of y)) all → AreInOrder (map row_of all)
+pub sorted_rows : (all : List Standing) → IsSortedBy (λ x y. is_row_before (row_of x) (row_of y)) all → AreInOrder (map row_of all)
 sorted_rows [] up = λ k d low high. absurd (omega (arith, high))
 sorted_rows (s ∷ ss) up = sorted_at (s ∷ ss) up s
 
@@ -112,21 +112,21 @@ placed_more all i d old new below before is =
 
 -- none of the first i rows comes before the one in front of it
 abbrev pub AreSoFar : List Row → ℕ → Type 0
-AreSoFar rows i = (k : ℕ) → k + 1 < i → is_before (row_nth rows (k + 1)) (row_nth rows k) ≡ false
+AreSoFar rows i = (k : ℕ) → k + 1 < i → is_row_before (row_nth rows (k + 1)) (row_nth rows k) ≡ false
 
-pub so_far_more : (rows : List Row) (i j : ℕ) → AreSoFar rows i → j + 1 ≡ i → is_before (row_nth rows i) (row_nth rows j) ≡ false → AreSoFar rows (i + 1)
+pub so_far_more : (rows : List Row) (i j : ℕ) → AreSoFar rows i → j + 1 ≡ i → is_row_before (row_nth rows i) (row_nth rows j) ≡ false → AreSoFar rows (i + 1)
 so_far_more rows i j before at apart k lt = elim (cases_lt (k + 1) i) [
   | inl below ↦ before k below
   | inr here ↦
       let one : k + 1 ≡ i = omega (arith, here, lt) in
       let two : k ≡ j = omega (arith, one, at) in
-      ap (λ (n : ℕ). is_before (row_nth rows n) (row_nth rows k)) one ∙ ap (λ (n : ℕ). is_before (row_nth rows i) (row_nth rows n)) two ∙ apart
+      ap (λ (n : ℕ). is_row_before (row_nth rows n) (row_nth rows k)) one ∙ ap (λ (n : ℕ). is_row_before (row_nth rows i) (row_nth rows n)) two ∙ apart
 ]
 
 pub so_far_all : (rows : List Row) (i : ℕ) → AreSoFar rows i → length rows ≤ i → AreInOrder rows
 so_far_all rows i before all k d low high =
-    ap (λ (r : Row). is_before r (get_or rows k d)) (get_or_default rows (k + 1) d no_row high)
-    ∙ ap (is_before (row_nth rows (k + 1))) (get_or_default rows k d no_row (omega (arith, high))) ∙ before k (omega (arith, high, all))
+    ap (λ (r : Row). is_row_before r (get_or rows k d)) (get_or_default rows (k + 1) d no_row high)
+    ∙ ap (is_row_before (row_nth rows (k + 1))) (get_or_default rows k d no_row (omega (arith, high))) ∙ before k (omega (arith, high, all))
 
 pub none_in : (row : Row) (rows : List Row) → length rows ≡ 0 → times row rows ≡ 0
 none_in row [] none = times_none row

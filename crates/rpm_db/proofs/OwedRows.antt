@@ -5,11 +5,11 @@ use Rattle.std.proofs.lemmas.List.{length-replicate}
 use Rattle.std.proofs.lemmas.Bool.Decides.{nat_tests}
 use Rattle.std.specs.FinMap as finite
 use Rattle.rpm_db.proofs.Vocabulary.{AreNetted, Balances, blank, Database, due, due_units, Files, HasChanged, HasRows, is_current, is_in_order}
-use Rattle.rpm_db.proofs.Vocabulary.{IsInOrder, IsOrdered, live_of, nat_cmp, nothing, Package, packages, Row, RowChange, rows, times, with_rows}
-use Rattle.rpm_db.proofs.Vocabulary.{generation_of, room, sealed, sealed_in, State, times-append, times_none, Units, units_for}
+use Rattle.rpm_db.proofs.Vocabulary.{IsCurrentIndex, IsOrdered, live_of, nat_cmp, no_row_changes, Package, packages, Row, RowChange, rows, times, with_rows}
+use Rattle.rpm_db.proofs.Vocabulary.{generation_of, store_of, sealed, sealed_in, IndexState, times-append, times_none, Units, units_for}
 use Rattle.rpm_db.proofs.Found.{current_in_order}
 use Rattle.rpm_db.proofs.Reached.{live_none}
-use Rattle.rpm_hindex.specs.inner.RowLaws.{live-append}
+use Rattle.rpm_hindex.specs.laws.RowLaws.{live-append}
 
 -- one more change, which drops rows that are there
 pub balance_more : (owed : RowChange) (drops adds old mid new : List Row) → Balances owed old mid → HasChanged drops adds mid new
@@ -27,7 +27,7 @@ pub balance_most : (owed : RowChange) (old new : List Row) → Balances owed old
 balance_most owed old new balances row = omega (arith, balances row, times-append row old owed.adds)
 
 -- an index that is owed nothing
-pub rows_clear : (from to : finite.FinMap nat_cmp Package) (idx : Units) (owed : RowChange) → owed ≡ nothing → HasRows from idx
+pub rows_clear : (from to : finite.FinMap nat_cmp Package) (idx : Units) (owed : RowChange) → owed ≡ no_row_changes → HasRows from idx
     → Balances owed (rows from) (rows to) → HasRows to idx
 rows_clear from to idx owed none has balances = record {
   whole = has.whole;
@@ -38,31 +38,31 @@ rows_clear from to idx owed none has balances = record {
 
 -- ---- the seal
 
-pub current_sealed : (g : ℕ) (s : State) → is_current g s ≡ true → sealed s.first ≡ g
+pub current_sealed : (g : ℕ) (s : IndexState) → is_current g s ≡ true → sealed s.first ≡ g
 unfolding is_current
 current_sealed g s current =
     let test = (and_parts (eqb (sealed s.first) g) (is_in_order s) current).0 in
     grind (arith, nat_tests, test)
 
-pub other_sealed : (g : ℕ) (s : State) → is_in_order s ≡ true → is_current g s ≡ false → sealed s.first ≡ g → ⊥
+pub other_sealed : (g : ℕ) (s : IndexState) → is_in_order s ≡ true → is_current g s ≡ false → sealed s.first ≡ g → ⊥
 unfolding is_current
 other_sealed g s order other same =
     let both = and_from (eqb (sealed s.first) g) (is_in_order s) (eq-eqb (sealed s.first) g same) order in
     absurd cc
 
 -- as the batch begins
-pub ordered_of : (g : ℕ) (o : Option State) → IsInOrder g o → IsOrdered o
+pub ordered_of : (g : ℕ) (o : Option IndexState) → IsCurrentIndex g o → IsOrdered o
 ordered_of g None is = tt
 ordered_of g (Some s) is = current_in_order g s is
 
-pub sealed_of : (g : ℕ) (o : Option State) → is_some o ≡ true → IsInOrder g o → sealed_in o ≡ g
+pub sealed_of : (g : ℕ) (o : Option IndexState) → is_some o ≡ true → IsCurrentIndex g o → sealed_in o ≡ g
 sealed_of g None some is = absurd cc
 sealed_of g (Some s) some is = current_sealed g s is
 
 -- ---- how far the index is to reach
 
 module _ (pkg idx : Units) (db : Database) (owed : RowChange) where
-  due_least : (sealed_in db.index ≡ generation_of db → owed ≡ nothing) → length idx + live_of owed.adds ≤ due_units pkg idx db owed
+  due_least : (sealed_in db.index ≡ generation_of db → owed ≡ no_row_changes) → length idx + live_of owed.adds ≤ due_units pkg idx db owed
   due_least clear = elim (cases_Bool (sealed_in db.index == generation_of db)) [
     | inl same ↦
         (let is : sealed_in db.index ≡ generation_of db = grind (arith, nat_tests, same) in
@@ -72,15 +72,15 @@ module _ (pkg idx : Units) (db : Database) (owed : RowChange) where
   ]
 
   due_behind : (sealed_in db.index ≡ generation_of db → ⊥)
-      → due_units pkg idx db owed ≡ max (length idx + live_of owed.adds) (units_for (rows (packages pkg (room db))))
+      → due_units pkg idx db owed ≡ max (length idx + live_of owed.adds) (units_for (rows (packages pkg (store_of db))))
   due_behind other =
       let test : (sealed_in db.index == generation_of db) ≡ false = grind (arith, nat_tests, other) in
       rw test refl
 
 -- with the rows of one more change
 pub due_more : (old new : Files) (before after : Database) (owed more : RowChange) (drops adds : List Row) (added needed : ℕ) → new.idx ≡ old.idx
-    → (sealed_in before.index ≡ generation_of before → owed ≡ nothing) → (sealed_in after.index ≡ generation_of after → ⊥)
-    → more ≡ with_rows owed drops adds → added ≡ live_of adds → needed ≡ units_for (rows (packages new.pkg (room after)))
+    → (sealed_in before.index ≡ generation_of before → owed ≡ no_row_changes) → (sealed_in after.index ≡ generation_of after → ⊥)
+    → more ≡ with_rows owed drops adds → added ≡ live_of adds → needed ≡ units_for (rows (packages new.pkg (store_of after)))
     → length (due new after more).idx ≤ max (length (due old before owed).idx + added) needed
 due_more old new before after owed more drops adds added needed same clear apart is added_is needed_is =
     omega (

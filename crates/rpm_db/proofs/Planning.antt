@@ -3,17 +3,17 @@ use Rattle.std.proofs.Common.{◌≡◌, ℕ, ◌+◌, ◌≤◌, List, Option, 
 use Rattle.std.specs.Prelude.{IsTrue, Result}
 use Rattle.std.specs.FinMap as finite
 use Rattle.rpm_outside.specs.declared.disk.Disk as disk
-use Rattle.rpm_db.proofs.Vocabulary.{BadIndexIs, BlobMap, blobs, CanChange, ChangeFault, edited, field_edited, field_for, FullIndexIs, HasRows, images, IsDone, IsFor, IsPlan}
+use Rattle.rpm_db.proofs.Vocabulary.{BadIndexIs, BlobMap, blobs, CanChange, ChangeFault, edited_blobs, field_edited, field_for, FullIndexIs, HasRows, images, IsDone, IsFor, IsPlan}
 use Rattle.rpm_db.proofs.Vocabulary.{nat_cmp, old_rows, Package, packages, packages_of, Plan, put_map, rows, state, state_of, Store, Units, units_for, with_spare}
 use Rattle.rpm_db.proofs.Edited.{number_is, quiet_room}
 use Rattle.rpm_db.proofs.Puts.{field_planned, map_planned, packages_same}
 use Rattle.rpm_hindex.specs.State as hindex
 use Rattle.rpm_db.specs.inner.Both.{IndexIs}
 use Rattle.rpm_db.specs.inner.Filling.{CanPutAside}
-use Rattle.rpm_db.proofs.Halves.{half_stops}
-use Rattle.rpm_db.proofs.Unwritten.{stops_told}
+use Rattle.rpm_db.proofs.Halves.{half_crashes}
+use Rattle.rpm_db.proofs.Unwritten.{crashes_told}
 use Rattle.rpm_db.proofs.Sums.{sums_room}
-use Rattle.rpm_db.proofs.Vocabulary.{AreLawful, BlobsTo, IsChangedStill, IsQuiet, Keeps, KeepsSums, LeavesIn, number_for, Pkg, Runs, SameFiles, Stops}
+use Rattle.rpm_db.proofs.Vocabulary.{AreLawful, BlobsTo, IsChangedStill, IsQuiet, KeepsStore, KeepsSums, CrashLeaves, number_for, Pkg, Runs, SameFiles, IsTornOnly}
 use Rattle.rpm_db.specs.declared.writing.Edit.TheVariants as edit
 
 -- room in memory changes no state
@@ -37,7 +37,7 @@ planned room plan_is asked own = record { room = room; plan_is = plan_is; asked 
 
 module _ {value planned : Store} {n : Option ℕ} {plan : Plan} {bytes blob : List ℕ} (file : Units) (p : IsPutPlan value planned n plan bytes blob) where
   -- the blobs, the number field and the state that it makes
-  pub map_is : edited (edit.Put plan) bytes (blobs file planned) ≡ put_map file value n blob
+  pub map_is : edited_blobs (edit.Put plan) bytes (blobs file planned) ≡ put_map file value n blob
   map_is = map_planned file value planned p.room n (length blob) plan p.plan_is p.asked bytes blob p.own
 
   -- and what verifying says then
@@ -49,13 +49,13 @@ module _ {value planned : Store} {n : Option ℕ} {plan : Plan} {bytes blob : Li
   pub field_is : field_edited (edit.Put plan) planned.field ≡ field_for n value
   field_is = field_planned value planned p.room n (length blob) plan p.plan_is p.asked
 
-  pub state_is : state_of (edited (edit.Put plan) bytes (blobs file planned)) (field_edited (edit.Put plan) planned.field)
+  pub state_is : state_of (edited_blobs (edit.Put plan) bytes (blobs file planned)) (field_edited (edit.Put plan) planned.field)
       ≡ state_of (put_map file value n blob) (field_for n value)
   state_is = ap (λ (k : BlobMap). state_of k (field_edited (edit.Put plan) planned.field)) map_is ∙ ap (state_of (put_map file value n blob)) field_is
 
 module _ {D : Type 0} (d : disk.Ghosts D) (value planned : Store) (room : planned ≡ with_spare planned.spare value) where
   -- a store that made room in memory can be changed as before
-  pub roomed : (at : D) (index : hindex.State) → CanChange d at value index → CanChange d at planned index
+  pub roomed : (at : D) (index : hindex.IndexState) → CanChange d at value index → CanChange d at planned index
   roomed at index r = subst (λ (v : Store). CanChange d at v index) (sym room) (record {
     going = r.going;
     made = r.made;
@@ -63,7 +63,7 @@ module _ {D : Type 0} (d : disk.Ghosts D) (value planned : Store) (room : planne
     keeps = r.keeps;
     units = r.units;
     quiet = λ told. quiet_room planned.spare value (d.files at) (images d at) (r.quiet told);
-    settled = r.settled;
+    durable = r.durable;
   })
 
   pub rows_roomed : (at : D) → HasRows (packages (d.files at).pkg value) (d.files at).idx → HasRows (packages (d.files at).pkg planned) (d.files at).idx
@@ -81,7 +81,7 @@ module _ {D : Type 0} (d : disk.Ghosts D) (value planned : Store) (room : planne
   }
 
   -- and what was done to it was done to that before
-  pub done_roomed : (old new : D) (after : Store) (index : hindex.State) (to goes : BlobMap) (field next least few : ℕ) → to ≡ goes → field ≡ next
+  pub done_roomed : (old new : D) (after : Store) (index : hindex.IndexState) (to goes : BlobMap) (field next least few : ℕ) → to ≡ goes → field ≡ next
       → least ≡ few → IsDone d old new planned after index to field least → IsDone d old new value after index goes next few
   done_roomed old new after index to goes field next least few to_is field_same least_is is =
       record {
@@ -95,15 +95,15 @@ module _ {D : Type 0} (d : disk.Ghosts D) (value planned : Store) (room : planne
       }
 
   -- what crashes leave while a header is put into the store alone
-  pub stops_aside : {n : Option ℕ} {plan : Plan} {bytes blob : List ℕ} (a b e : D) (told : IsTrue d.tells) → AreLawful (images d a) → images d a (d.files a)
+  pub crashes_aside : {n : Option ℕ} {plan : Plan} {bytes blob : List ℕ} (a b e : D) (told : IsTrue d.tells) → AreLawful (images d a) → images d a (d.files a)
       → Runs d SameFiles a b → CanPutAside d a value → IsPutPlan value planned n plan bytes blob
-      → (IsQuiet planned (d.files a) (images d b) → LeavesIn d b e (Stops Pkg (BlobsTo planned.generation planned.field
-      (field_edited (edit.Put plan) planned.field) (blobs (d.files a).pkg planned) (edited (edit.Put plan) bytes (blobs (d.files a).pkg planned)))
+      → (IsQuiet planned (d.files a) (images d b) → CrashLeaves d b e (IsTornOnly Pkg (BlobsTo planned.generation planned.field
+      (field_edited (edit.Put plan) planned.field) (blobs (d.files a).pkg planned) (edited_blobs (edit.Put plan) bytes (blobs (d.files a).pkg planned)))
       (images d b)))
-      → LeavesIn d a e (IsChangedStill (state (d.files a).pkg value) (state_of (put_map (d.files a).pkg value n blob) (field_for n value)) (images d a))
-  stops_aside a b e told lawful now run can p stops =
+      → CrashLeaves d a e (IsChangedStill (state (d.files a).pkg value) (state_of (put_map (d.files a).pkg value n blob) (field_for n value)) (images d a))
+  crashes_aside a b e told lawful now run can p crashes =
       let file = (d.files a).pkg in
-      stops_told d a e (images d a) _ _ _ _ (state_same file value planned room) (state_is file p)
-      (half_stops d a b e told lawful now run planned (subst (Keeps file) (sym room) (can.keeps told))
+      crashes_told d a e (images d a) _ _ _ _ (state_same file value planned room) (state_is file p)
+      (half_crashes d a b e told lawful now run planned (subst (KeepsStore file) (sym room) (can.keeps told))
       (subst (λ (v : Store). 1 ≤ v.pages) (sym room) can.made) (subst (λ (v : Store). IsQuiet v (d.files a) (images d a)) (sym room)
-      (quiet_room planned.spare value (d.files a) (images d a) (can.quiet told))) (can.settled told) _ _ stops)
+      (quiet_room planned.spare value (d.files a) (images d a) (can.quiet told))) (can.durable told) _ _ crashes)

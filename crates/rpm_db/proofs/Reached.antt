@@ -1,6 +1,6 @@
 -- How far a change makes the index reach.
 use Rattle.std.proofs.Common.{◌≡◌, ℕ, [], Option, Some, None, Ok, refl, ap, ◌∙◌}
-use Rattle.rpm_db.proofs.Vocabulary.{added, added_rows, change_for, dropped_rows, Header, header, header_rows, live_of, next, next-state, number_for}
+use Rattle.rpm_db.proofs.Vocabulary.{added_units, added_rows, change_for, dropped_rows, Header, header, header_rows, live_of, next, next-state, number_for}
 use Rattle.rpm_db.proofs.Vocabulary.{old_rows, packages, rows_read, state, Store, Units}
 
 pub live_none : live_of [] ≡ 0
@@ -20,6 +20,6 @@ added_are pkg value None h own =
 added_are pkg value (Some n) h own = ap (rows_read n) own
 
 pub added_is : (pkg : Units) (value : Store) (n : Option ℕ) (h : Header) → header h.blob ≡ Ok h
-    → added (state pkg value) (change_for n h.blob) ≡ live_of (header_rows (number_for n value) h)
+    → added_units (state pkg value) (change_for n h.blob) ≡ live_of (header_rows (number_for n value) h)
 added_is pkg value None h own = ap live_of (added_are pkg value None h own)
 added_is pkg value (Some n) h own = ap live_of (added_are pkg value (Some n) h own)

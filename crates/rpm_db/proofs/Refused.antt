@@ -1,10 +1,10 @@
 -- What a fault says.
 use Rattle.std.proofs.Common.{◌≡◌, ℕ, ◌^◌, ◌≤◌, ◌⊎◌, inl, inr, Bool, List, length, true, false, Ok, Err, refl, sym, ◌∙◌, subst, arith}
 use Rattle.std.specs.Prelude.{IfErr, Result}
-use Rattle.rpm_db.proofs.Vocabulary.{AddIs, BadCause, BadHeader, BadIndex, BadIndexIs, ChangeFault, Database, DiskFault, EraseCause, EraseIs, FullCause, FullIndexIs, Header}
-use Rattle.rpm_db.proofs.Vocabulary.{header, holds, IndexFull, is_stopping, IsFull, IsOfErasing, IsOfIndex, IsOfReading, IsRefusal, LaterCause, LaterIs}
-use Rattle.rpm_db.proofs.Vocabulary.{generation_of, GenerationSpent, IsRead, NoMemory, NoSuch, NumbersSpent, PutIs, PutsHeader, room, Row, Stopped, Units}
-use Rattle.rpm_db.specs.Database.{next_number}
+use Rattle.rpm_db.proofs.Vocabulary.{AddAnswer, BadCause, BadHeader, BadIndex, BadIndexIs, ChangeFault, Database, DiskFault, EraseCause, EraseAnswer, FullCause, FullIndexIs, Header}
+use Rattle.rpm_db.proofs.Vocabulary.{header, holds, IndexFull, is_stopping, IsStoreFull, IsOfStoreErasing, IsOfIndex, IsOfReading, IsRefusal, LaterCause, LaterIs}
+use Rattle.rpm_db.proofs.Vocabulary.{generation_of, GenerationSpent, IsRead, NoMemory, NoSuch, NumbersSpent, PutAnswer, PutsHeader, store_of, Row, Stopped, Units}
+use Rattle.rpm_db.specs.Database.{next_package_number}
 
 -- after the generation and the room in the store
 pub later_of_index : (generation : ℕ) (full : Type 0) (fault : ChangeFault) → IsOfIndex fault → (generation ≡ 4294967295 → ⊥) → ¬ full
@@ -54,7 +54,7 @@ reading_cause db n NoMemory going here left kind = (going, here, left)
 reading_cause db n others going here left kind = absurd kind
 
 pub erase_is : {A : Type 0} (db : Database) (n : ℕ) (result : Result A ChangeFault) → db.stopped ≡ false → holds n db ≡ true
-    → (generation_of db ≡ 4294967295 → ⊥) → IfErr result IsOfReading → EraseIs db n result
+    → (generation_of db ≡ 4294967295 → ⊥) → IfErr result IsOfReading → EraseAnswer db n result
 erase_is db n (Ok done) going here left kind = (going, here, (left, λ none. none))
 erase_is db n (Err fault) going here left kind = reading_cause db n fault going here left kind
 
@@ -86,7 +86,7 @@ pub erase_full : {A : Type 0} (needed : ℕ) (result : Result A ChangeFault) →
 erase_full needed (Ok done) kind fits = fits
 erase_full needed (Err fault) kind fits = reading_full needed fault kind
 
-pub erasing_of : (fault : ChangeFault) → IsOfReading fault → IsOfErasing fault
+pub erasing_of : (fault : ChangeFault) → IsOfReading fault → IsOfStoreErasing fault
 erasing_of DiskFault kind = tt
 erasing_of NoMemory kind = tt
 erasing_of others kind = absurd kind
@@ -97,7 +97,8 @@ not_reading result kind (inr is) = subst (λ r. IfErr r IsOfReading) is kind
 
 -- a header that is added, to a value that isn't stopped and has a number left
 pub add_cause : (db : Database) (bytes : List ℕ) (own : Header) (fault : ChangeFault) → db.stopped ≡ false → header bytes ≡ Ok own
-    → (next_number db ≡ 4294967295 → ⊥) → LaterCause (generation_of db) (IsFull (room db) true (length own.blob)) fault → AddIs {A = ℕ} db bytes (Err fault)
+    → (next_package_number db ≡ 4294967295 → ⊥) → LaterCause (generation_of db) (IsStoreFull (store_of db) true (length own.blob)) fault
+    → AddAnswer {A = ℕ} db bytes (Err fault)
 add_cause db bytes own (BadHeader f) going read left later = absurd later
 add_cause db bytes own NoSuch going read left later = absurd later
 add_cause db bytes own NumbersSpent going read left later = absurd later
@@ -105,7 +106,8 @@ add_cause db bytes own Stopped going read left later = absurd later
 add_cause db bytes own others going read left later = (left, record { going = going; own = own; read = read; later = later })
 
 pub add_is : (db : Database) (bytes : List ℕ) (own : Header) (result : Result ℕ ChangeFault) → db.stopped ≡ false → header bytes ≡ Ok own
-    → (next_number db ≡ 4294967295 → ⊥) → LaterIs (generation_of db) (IsFull (room db) true (length own.blob)) result → AddIs db bytes result
+    → (next_package_number db ≡ 4294967295 → ⊥) → LaterIs (generation_of db) (IsStoreFull (store_of db) true (length own.blob)) result
+    → AddAnswer db bytes result
 add_is db bytes own (Ok n) going read left later = (left, record { going = going; own = own; read = read; later = later })
 add_is db bytes own (Err fault) going read left later = add_cause db bytes own fault going read left later
 
@@ -119,14 +121,14 @@ module _ (db : Database) (a b : List ℕ) (same : header a ≡ header b) where
   puts_same is_new result p = record { going = p.going; own = p.own; read = sym same ∙ p.read; later = p.later }
 
   -- what adding one answers, adding the other answers
-  pub add_same : {A : Type 0} (result : Result A ChangeFault) → AddIs db a result → AddIs db b result
+  pub add_same : {A : Type 0} (result : Result A ChangeFault) → AddAnswer db a result → AddAnswer db b result
   add_same (Err Stopped) is = is
   add_same (Err (BadHeader f)) is = (is.0, sym same ∙ is.1)
   add_same (Err NumbersSpent) is = (read_same is.0, is.1)
   add_same others is = (is.0, puts_same true others is.1)
 
   -- and so does putting
-  pub put_same : {A : Type 0} (n : ℕ) (result : Result A ChangeFault) → PutIs db n a result → PutIs db n b result
+  pub put_same : {A : Type 0} (n : ℕ) (result : Result A ChangeFault) → PutAnswer db n a result → PutAnswer db n b result
   put_same n (Err Stopped) is = is
   put_same n (Err (BadHeader f)) is = (is.0, sym same ∙ is.1)
   put_same n (Err NoSuch) is = (read_same is.0, is.1)

@@ -2,7 +2,7 @@
 use Rattle.std.proofs.Common.{◌≡◌, ℕ, ◌+◌, ◌<◌, List, [], ◌++◌, take, true, false, Option, Some, None, Ok, Err, Result, is_some, refl, sym, ap, ◌∙◌, append_assoc}
 use Rattle.rpm_db.proofs.Vocabulary.{above, all_above_zero, blob_in, blobs, flat_map, frame_of, get-blobs, get-packages, Header, header, header-own}
 use Rattle.rpm_db.proofs.Vocabulary.{HeaderFault, is_there, IsNext, Kind, kinds, nat_cmp, next_above, nothing_above, option_map, Package, package_of}
-use Rattle.rpm_db.proofs.Vocabulary.{package_rows, packages, read_as, Row, rows, rows_at, rows_in, rows_read, slot_with, Store, unindexed, Units}
+use Rattle.rpm_db.proofs.Vocabulary.{package_rows, packages, read_as, Row, rows, rows_at, rows_in, rows_read, slot_with, Store, without_index, Units}
 use Rattle.std.specs.FinMap as finite
 use Rattle.std.proofs.lemmas.List.{take_more, flat_map_more, append-nil}
 use Rattle.std.proofs.Math.ListN.{get_or}
@@ -34,11 +34,11 @@ none_at file store n none =
     get-packages file store n ∙ ap (option_map package_of) (get-blobs file store n ∙ ap (option_map (λ s. option_map blob_in (frame_of n s file))) none)
 
 -- the next number of a store is that of its packages
-pub next_package : (file : Units) (store : Store) (n : ℕ) (r : Option ℕ) → pairs.IsNext (λ m. slot_with m store.slots) n r
+pub next_package : (file : Units) (store : Store) (n : ℕ) (r : Option ℕ) → pairs.IsNextFound (λ m. slot_with m store.slots) n r
     → IsNext (λ m. is_some (finite.get (packages file store) m)) n r
 next_package file store n r next =
     next_is (λ m. is_some (finite.get (packages file store) m)) (λ m. is_some (slot_with m store.slots)) n r
-    (λ k. is_there file (unindexed store) k) (next_of_slots store.slots n r next)
+    (λ k. is_there file (without_index store) k) (next_of_slots store.slots n r next)
 
 -- ---- going through the numbers
 

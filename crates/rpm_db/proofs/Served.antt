@@ -6,12 +6,12 @@ use Rattle.rpm_db.proofs.Vocabulary.{Units, with_room, with_spare}
 use Rattle.rpm_pkgdb.specs.Store as pkgdb
 use Rattle.rpm_hindex.specs.State as hindex
 use Rattle.rpm_db.proofs.Edited.{quiet_room}
-use Rattle.rpm_db.proofs.Unwritten.{quiet_same, settled_same}
+use Rattle.rpm_db.proofs.Unwritten.{quiet_same, durable_same}
 use Rattle.rpm_db.proofs.Making.{current_same, rows_of_lawful}
 use Rattle.rpm_outside.specs.declared.disk.Disk as disk
 
 -- a current index of the packages
-pub indexed_as : (pkg idx : Units) (value : Store) (index : hindex.State) (stopped : Bool) → hindex.Keeps idx index
+pub indexed_as : (pkg idx : Units) (value : Store) (index : hindex.IndexState) (stopped : Bool) → hindex.KeepsIndexValue idx index
     → hindex.is_current value.generation index ≡ true → HasRows (packages pkg value) idx → IsIndexed pkg idx (database_of value (Some index) stopped)
 indexed_as pkg idx value index stopped keeps current has = record {
   current = sym (current_same value.generation idx index keeps) ∙ current;
@@ -19,7 +19,8 @@ indexed_as pkg idx value index stopped keeps current has = record {
 }
 
 -- it holds their rows where the files are lawful
-pub rows_of_disk : (pkg idx : Units) (value : Store) (index : hindex.State) → pkgdb.Keeps pkg value → 1 ≤ value.pages → hindex.Keeps idx index
+pub rows_of_disk : (pkg idx : Units) (value : Store) (index : hindex.IndexState) → pkgdb.KeepsStore pkg value → 1 ≤ value.pages
+    → hindex.KeepsIndexValue idx index
     → hindex.is_current value.generation index ≡ true → IsLawful pkg idx → HasRows (packages pkg value) idx
 rows_of_disk pkg idx value index keeps made kept current lawful =
     rows_of_lawful pkg idx value keeps made lawful (sym (current_same value.generation idx index kept) ∙ current)
@@ -31,29 +32,29 @@ pub room_same : (value new : Store) → new ≡ value → new ≡ with_spare new
 room_same value new same = subst (λ (v : Store). v ≡ with_spare v.spare value) (sym same) refl
 
 -- the value as it was, up to that room
-pub refused_room : (value new : Store) (index changed : hindex.State) (was is : Bool) → new ≡ with_spare new.spare value → changed ≡ index → is ≡ was
+pub refused_room : (value new : Store) (index changed : hindex.IndexState) (was is : Bool) → new ≡ with_spare new.spare value → changed ≡ index → is ≡ was
     → database_of new (Some changed) is ≡ with_room new.spare (database_of value (Some index) was)
 refused_room value new index changed was is same same_index going =
     ap (λ (v : Store). database_of v (Some changed) is) same
-    ∙ ap (λ (i : hindex.State). database_of (with_spare new.spare value) (Some i) is) same_index
+    ∙ ap (λ (i : hindex.IndexState). database_of (with_spare new.spare value) (Some i) is) same_index
     ∙ ap (λ (b : Bool). database_of (with_spare new.spare value) (Some index) b) going
 
 -- as it was
-pub refused_same : (value new : Store) (index changed : hindex.State) (was is : Bool) → new ≡ value → changed ≡ index → is ≡ was
+pub refused_same : (value new : Store) (index changed : hindex.IndexState) (was is : Bool) → new ≡ value → changed ≡ index → is ≡ was
     → database_of new (Some changed) is ≡ database_of value (Some index) was
 refused_same value new index changed was is same same_index going = cc
 
 -- and it still serves
 module _ {D : Type 0} (d : disk.Ghosts D) where
   pub serving_same : (a b : D) → IsTrue d.tells → Runs d SameFiles a b
-      → (value new : Store) (index changed : hindex.State) (was is : Bool) → new ≡ with_spare new.spare value → changed ≡ index
+      → (value new : Store) (index changed : hindex.IndexState) (was is : Bool) → new ≡ with_spare new.spare value → changed ≡ index
       → IsServing (d.files a) (images d a) (database_of value (Some index) was)
       → IsServing (d.files b) (images d b) (database_of new (Some changed) is)
   serving_same a b told run value new index changed was is same same_index s =
       let quiet = quiet_same d a b told run value s.quiet in
       record {
-        keeps = subst (pkgdb.Keeps (d.files b).pkg) (sym same) (ap (λ (f : Files). store f.pkg) (run.reads_as told) ∙ s.keeps);
+        keeps = subst (pkgdb.KeepsStore (d.files b).pkg) (sym same) (ap (λ (f : Files). store f.pkg) (run.reads_as told) ∙ s.keeps);
         index = rw (same_index, run.reads_as told) s.index;
         quiet = subst (λ (v : Store). IsQuiet v (d.files b) (images d b)) (sym same) (quiet_room new.spare value (d.files b) (images d b) quiet);
-        settled = settled_same d a b told run s.settled;
+        durable = durable_same d a b told run s.durable;
       }

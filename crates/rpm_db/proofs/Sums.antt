@@ -8,7 +8,7 @@ use Rattle.std.proofs.lemmas.Cmp.{nat_cmp_total}
 use Rattle.std.proofs.lemmas.List.{get_or-set_same}
 use Rattle.rpm_outside.specs.Files.{Units}
 use Rattle.rpm_outside.specs.declared.disk.Disk as disk
-use Rattle.rpm_pkgdb.specs.BlobLaws.{get-blobs-frames}
+use Rattle.rpm_pkgdb.specs.laws.BlobLaws.{get-blobs-frames}
 use Rattle.rpm_pkgdb.specs.Blobs.{blob_in, blobs, blocks_for, Frame, frames}
 use Rattle.rpm_pkgdb.specs.Checksums.{checksum_holds, checksums_hold}
 use Rattle.rpm_pkgdb.specs.Frame.{pkg}
@@ -18,19 +18,19 @@ use Rattle.rpm_pkgdb.specs.Plans.{slot_for}
 use Rattle.rpm_pkgdb.specs.Puts.{IsPut}
 use Rattle.rpm_pkgdb.specs.Rewritten.{IsErased}
 use Rattle.rpm_pkgdb.specs.Slots.{free, has_number, is_used, slot_at, slot_with}
-use Rattle.rpm_pkgdb.specs.Store.{Keeps, Store}
-use Rattle.rpm_pkgdb.specs.Written.{erased, with_plan, with_spare}
+use Rattle.rpm_pkgdb.specs.Store.{KeepsStore, Store}
+use Rattle.rpm_pkgdb.specs.Written.{without_number, with_plan, with_spare}
 use Rattle.rpm_pkgdb.specs.declared.added_page.Move.{Move}
 use Rattle.rpm_pkgdb.specs.declared.plan.Plan.{Plan}
 use Rattle.rpm_db.proofs.Vocabulary.{Add, apply, Bad, Change, changed_number, change_for, database_of, Erase, get-packages, Good, Header, header, HeaderFault, KeepsSums}
-use Rattle.rpm_db.proofs.Vocabulary.{KeepsVerdicts, nat_cmp, next, next-state, number_for, option_map, package_of, packages, Put, state, unindexed, verdict}
+use Rattle.rpm_db.proofs.Vocabulary.{KeepsVerdicts, nat_cmp, next, next-state, number_for, option_map, package_of, packages, Put, state, without_index, verdict}
 use Rattle.rpm_db.proofs.Vocabulary.{verdict_of}
 use Rattle.rpm_db.proofs.VerdictLaws.{verdict_stays, written_sum}
 use Rattle.rpm_db.specs.State.{State}
 use Rattle.rpm_db.specs.Verdicts.{header_verdict, is_digest_wrong}
 use Rattle.rpm_db.specs.declared.verify.Verdict.{Verdict}
 use Rattle.rpm_db.specs.declared.verify.Verdict.TheVariants.{BadHeader, BadChecksum, BadDigest, Sound}
-use Rattle.rpm_db.specs.inner.Edits.{CanPut}
+use Rattle.rpm_db.specs.inner.Edits.{CanPutPlan}
 use Rattle.rpm_hindex.specs.State as hindex
 use Rattle.rpm_pkgdb.proofs.Facts.{has_it_from}
 use Rattle.rpm_pkgdb.proofs.Made as made
@@ -57,9 +57,9 @@ get_inserted map n x =
     let tied : eq_by_cmp nat_cmp n n ≡ true = unsigned_tied n n ∙ eq-eqb n n refl in
     finite.get-insert nat_cmp_total map n x n ∙ rw tied refl
 
-module _ {D : Type 0} (d : disk.Ghosts D) (old new : D) (before after : Store) (keeps : Keeps (pkg d old) before) (some : 1 ≤ before.pages) where
+module _ {D : Type 0} (d : disk.Ghosts D) (old new : D) (before after : Store) (keeps : KeepsStore (pkg d old) before) (some : 1 ≤ before.pages) where
   -- a blob was put
-  pub sums_put : (plan : Plan) (blob : List ℕ) → before.generation < 2 ^ 32 → CanPut plan blob before
+  pub sums_put : (plan : Plan) (blob : List ℕ) → before.generation < 2 ^ 32 → CanPutPlan plan blob before
       → after ≡ with_spare after.spare (with_plan plan before) → IsPut d old new before after plan.target blob
       → KeepsSums plan.target.number (pkg d old) (pkg d new) before after
   sums_put plan blob fits can is put =
@@ -85,7 +85,7 @@ module _ {D : Type 0} (d : disk.Ghosts D) (old new : D) (before after : Store) (
       }
 
   -- a number was taken out
-  pub sums_erased : (n : ℕ) → after ≡ erased n before → IsErased d old new before after n → KeepsSums n (pkg d old) (pkg d new) before after
+  pub sums_erased : (n : ℕ) → after ≡ without_number n before → IsErased d old new before after n → KeepsSums n (pkg d old) (pkg d new) before after
   sums_erased n is gone =
       let some_after : 1 ≤ after.pages = subst (λ (v : Store). 1 ≤ v.pages) (sym is) some in
       let none : finite.get (blobs (pkg d new) after) n ≡ None =
@@ -96,11 +96,12 @@ module _ {D : Type 0} (d : disk.Ghosts D) (old new : D) (before after : Store) (
       }
 
 -- after another change that keeps them all
-pub sums_since : (n : ℕ) (a b c : Units) (st mid after : Store) → ((m : ℕ) → verdict b (unindexed mid) m ≡ verdict a (unindexed st) m)
+pub sums_since : (n : ℕ) (a b c : Units) (st mid after : Store) → ((m : ℕ) → verdict b (without_index mid) m ≡ verdict a (without_index st) m)
     → KeepsSums n b c mid after → KeepsSums n a c st after
 sums_since n a b c st mid after same sums = record { others = λ m differs. sums.others m differs ∙ same m; own = sums.own }
 
-verdict_room : (file : Units) (spare : ℕ) (value : Store) (n : ℕ) → verdict file (unindexed (with_spare spare value)) n ≡ verdict file (unindexed value) n
+verdict_room : (file : Units) (spare : ℕ) (value : Store) (n : ℕ)
+    → verdict file (without_index (with_spare spare value)) n ≡ verdict file (without_index value) n
 unfolding blobs
 verdict_room file spare value n = refl
 
@@ -109,7 +110,7 @@ pub sums_room : (n : ℕ) (a c : Units) (value planned after : Store) → planne
     → KeepsSums n a c value after
 sums_room n a c value planned after same sums =
     sums_since n a a c value planned after
-    (λ m. ap (λ (v : Store). verdict a (unindexed v) m) same ∙ verdict_room a planned.spare value m) sums
+    (λ m. ap (λ (v : Store). verdict a (without_index v) m) same ∙ verdict_room a planned.spare value m) sums
 
 -- ---- what verifying says then
 
@@ -143,7 +144,7 @@ blob_fine (Some (Some blob)) (Some (Some false)) right good = absurd (let e = ri
 blob_fine (Some (Some blob)) (Some (Some true)) right good = read_fine blob (header blob) refl (λ bad. good (ap Some bad))
 
 -- of a change whose state is known
-pub verdicts_are : (change : Change) (old new : Units) (before after : Store) (index index' : Option hindex.State) (was is : Bool)
+pub verdicts_are : (change : Change) (old new : Units) (before after : Store) (index index' : Option hindex.IndexState) (was is : Bool)
     → state new after ≡ apply change (state old before) → (n : ℕ) → changed_number change (state old before) ≡ n → KeepsSums n old new before after
     → KeepsVerdicts (changed_number change (state old before)) old new (database_of before index was) (database_of after index' is)
 verdicts_are change old new before after index index' was is goes n number sums =

@@ -10,8 +10,8 @@ use Rattle.rpm_hindex.proofs.Fitting.{changed_least, count_least}
 use Rattle.rpm_hindex.proofs.Orders.{ordered_parts}
 use Rattle.std.proofs.lemmas.Bool.{and_parts}
 
-pub units_ordered : (idx : Units) (index : hindex.State) (packages : finite.FinMap nat_cmp Package) → hindex.is_in_order index ≡ true
-    → hindex.Keeps idx index → HasRows packages idx → units_for (rows packages) ≤ 2 ^ 28
+pub units_ordered : (idx : Units) (index : hindex.IndexState) (packages : finite.FinMap nat_cmp Package) → hindex.is_in_order index ≡ true
+    → hindex.KeepsIndexValue idx index → HasRows packages idx → units_for (rows packages) ≤ 2 ^ 28
 unfolding hindex.is_in_order
 units_ordered idx index packages order keeps has =
     let B = buckets_of index.first in

@@ -1,14 +1,14 @@
 -- What holds after calls that wrote nothing, and what crashes leave of them.
 use Rattle.std.proofs.Common.{◌≡◌, ◌⊎◌, inl, inr, ℕ, refl, sym, ap, ◌∙◌, subst}
 use Rattle.std.specs.Prelude.{IsTrue}
-use Rattle.rpm_db.proofs.Vocabulary.{AreLawful, CameOf, Files, Idx, images, IsBetween, IsChangedStill, IsLawful, IsQuiet, IsSettled, leaves_then}
-use Rattle.rpm_db.proofs.Vocabulary.{leaves_weaker, LeavesIn, Looks, Pkg, Runs, runs_looks, runs_then, runs_weaker, SameFiles, SameLog, Says, StandsAs, Store}
+use Rattle.rpm_db.proofs.Vocabulary.{AreLawful, ImageFrom, Files, Idx, images, IsBetween, IsChangedStill, IsLawful, IsQuiet, IsDurable, leaves_then}
+use Rattle.rpm_db.proofs.Vocabulary.{leaves_weaker, CrashLeaves, OnlyReads, Pkg, Runs, runs_looks, runs_then, runs_weaker, SameFiles, SameLog, Says, RepresentsStore, Store}
 use Rattle.rpm_db.specs.State.{State}
 use Rattle.rpm_outside.specs.declared.disk.Disk as disk
 
 module _ (before after : State) where
   -- images of the start
-  pub same_still : (images : Files → Type 0) → AreLawful images → (image : Files) → CameOf SameFiles images image → IsChangedStill before after images image
+  pub same_still : (images : Files → Type 0) → AreLawful images → (image : Files) → ImageFrom SameFiles images image → IsChangedStill before after images image
   same_still images lawful image c = record {
     from = c.from;
     was = c.was;
@@ -18,7 +18,7 @@ module _ (before after : State) where
   }
 
   -- and of what came of them, while nothing was written
-  still_from : (first second : Files → Type 0) → ((i : Files) → second i → CameOf SameFiles first i) → (image : Files)
+  still_from : (first second : Files → Type 0) → ((i : Files) → second i → ImageFrom SameFiles first i) → (image : Files)
       → IsChangedStill before after second image → IsChangedStill before after first image
   still_from first second same image s =
       let c = same s.from s.was in
@@ -36,17 +36,17 @@ module _ (before after : State) where
       either from came (inr says) = inr says
 
   module _ {D : Type 0} (d : disk.Ghosts D) where
-    pub stops_refused : (a b : D) → IsTrue d.tells → AreLawful (images d a) → Runs d SameFiles a b
-        → LeavesIn d a b (IsChangedStill before after (images d a))
-    stops_refused a b told lawful run =
-        leaves_weaker d a b (CameOf SameFiles (images d a)) (IsChangedStill before after (images d a)) (same_still (images d a) lawful)
+    pub crashes_refused : (a b : D) → IsTrue d.tells → AreLawful (images d a) → Runs d SameFiles a b
+        → CrashLeaves d a b (IsChangedStill before after (images d a))
+    crashes_refused a b told lawful run =
+        leaves_weaker d a b (ImageFrom SameFiles (images d a)) (IsChangedStill before after (images d a)) (same_still (images d a) lawful)
         (run.any_moment told)
 
-    pub stops_written : (a b c : D) → IsTrue d.tells → AreLawful (images d a) → Runs d SameFiles a b
-        → LeavesIn d b c (IsChangedStill before after (images d b))
-        → LeavesIn d a c (IsChangedStill before after (images d a))
-    stops_written a b c told lawful run next =
-        leaves_then d a b c (IsChangedStill before after (images d a)) (stops_refused a b told lawful run)
+    pub crashes_written : (a b c : D) → IsTrue d.tells → AreLawful (images d a) → Runs d SameFiles a b
+        → CrashLeaves d b c (IsChangedStill before after (images d b))
+        → CrashLeaves d a c (IsChangedStill before after (images d a))
+    crashes_written a b c told lawful run next =
+        leaves_then d a b c (IsChangedStill before after (images d a)) (crashes_refused a b told lawful run)
         (leaves_weaker d b c (IsChangedStill before after (images d b)) (IsChangedStill before after (images d a))
         (still_from (images d a) (images d b) (run.now told)) next)
 
@@ -57,15 +57,15 @@ module _ {D : Type 0} (d : disk.Ghosts D) where
       → IsQuiet value (d.files a) (images d a) → IsQuiet value (d.files b) (images d b)
   quiet_same a b told run value quiet image here =
       let c = run.now told image here in
-      subst (λ (f : Files). StandsAs value f.pkg image.pkg) (sym (run.reads_as told))
-      (subst (λ (f : Files). StandsAs value (d.files a).pkg f.pkg) (sym c.came) (quiet c.from c.was))
+      subst (λ (f : Files). RepresentsStore value f.pkg image.pkg) (sym (run.reads_as told))
+      (subst (λ (f : Files). RepresentsStore value (d.files a).pkg f.pkg) (sym c.came) (quiet c.from c.was))
 
   -- and the index settled
-  pub settled_same : (a b : D) → IsTrue d.tells → Runs d SameFiles a b → IsSettled Idx (d.files a) (images d a)
-      → IsSettled Idx (d.files b) (images d b)
-  settled_same a b told run settled image here =
+  pub durable_same : (a b : D) → IsTrue d.tells → Runs d SameFiles a b → IsDurable Idx (d.files a) (images d a)
+      → IsDurable Idx (d.files b) (images d b)
+  durable_same a b told run durable image here =
       let c = run.now told image here in
-      ap (λ (f : Files). f.idx) c.came ∙ settled c.from c.was ∙ ap (λ (f : Files). f.idx) (sym (run.reads_as told))
+      ap (λ (f : Files). f.idx) c.came ∙ durable c.from c.was ∙ ap (λ (f : Files). f.idx) (sym (run.reads_as told))
 
   -- the log too
   pub log_same : (a b : D) → Runs d SameFiles a b
@@ -73,14 +73,14 @@ module _ {D : Type 0} (d : disk.Ghosts D) where
   log_same a b = runs_weaker d SameFiles SameLog a b (λ x y same. ap (λ (f : Files). f.log) same)
 
   -- where the index was read, and the packages before
-  pub looked_at : (n : ℕ) (a b : D) → Looks d Idx n a b → Runs d SameFiles a b
+  pub looked_at : (n : ℕ) (a b : D) → OnlyReads d Idx n a b → Runs d SameFiles a b
   looked_at n a b = runs_looks d SameFiles (λ f. refl) Idx n a b refl
 
   -- or the packages alone
-  pub looked_store : (n : ℕ) (a b : D) → Looks d Pkg n a b → Runs d SameFiles a b
+  pub looked_store : (n : ℕ) (a b : D) → OnlyReads d Pkg n a b → Runs d SameFiles a b
   looked_store n a b = runs_looks d SameFiles (λ f. refl) Pkg n a b refl
 
-  pub looked_both : ((a b c : D) → d.follows a b → d.follows b c → d.follows a c) → (m n : ℕ) (a b c : D) → Looks d Pkg m a b → Looks d Idx n b c
+  pub looked_both : ((a b c : D) → d.follows a b → d.follows b c → d.follows a c) → (m n : ℕ) (a b c : D) → OnlyReads d Pkg m a b → OnlyReads d Idx n b c
       → Runs d SameFiles a c
   looked_both trans m n a b c first second =
       runs_then d trans SameFiles SameFiles SameFiles a b c (λ x y same. same) (λ x y z p q. q ∙ p)
@@ -95,8 +95,8 @@ module _ {D : Type 0} (d : disk.Ghosts D) where
       (λ x y z p q. q ∙ ap (λ (f : Files). f.log) p) first second
 
 -- the same, of states that are told otherwise
-pub stops_told : {D : Type 0} (d : disk.Ghosts D) (b c : D) (images : Files → Type 0) (s t u v : State) → s ≡ t → u ≡ v
-    → LeavesIn d b c (IsChangedStill s u images) → LeavesIn d b c (IsChangedStill t v images)
-stops_told d b c images s t u v before after run =
-    subst (λ (x : State). LeavesIn d b c (IsChangedStill t x images)) after
-    (subst (λ (x : State). LeavesIn d b c (IsChangedStill x u images)) before run)
+pub crashes_told : {D : Type 0} (d : disk.Ghosts D) (b c : D) (images : Files → Type 0) (s t u v : State) → s ≡ t → u ≡ v
+    → CrashLeaves d b c (IsChangedStill s u images) → CrashLeaves d b c (IsChangedStill t v images)
+crashes_told d b c images s t u v before after run =
+    subst (λ (x : State). CrashLeaves d b c (IsChangedStill t x images)) after
+    (subst (λ (x : State). CrashLeaves d b c (IsChangedStill x u images)) before run)

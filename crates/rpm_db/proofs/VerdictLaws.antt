@@ -4,16 +4,16 @@ use Rattle.std.proofs.lemmas.Nat.{from_le_bytes-to_le_bytes_4}
 use Rattle.std.proofs.lemmas.List.{get_or-take, get_or-drop, length-take, take-append-le, take_all, drop-append-le, drop_all}
 use Rattle.rpm_outside.specs.Files.{blank, unit_at, Units, units_of}
 use Rattle.rpm_outside.specs.Words.{bytes_of_word, word}
-use Rattle.rpm_pkgdb.specs.BlobLaws.{get-blobs-frames}
+use Rattle.rpm_pkgdb.specs.laws.BlobLaws.{get-blobs-frames}
 use Rattle.rpm_pkgdb.specs.Blobs.{blob_in, blocks_at, blocks_for, Frame, frame_of, frames, is_framed, tail}
 use Rattle.rpm_pkgdb.specs.Checksums.{adler, checksum_holds, checksums_hold}
-use Rattle.rpm_pkgdb.specs.Framing.{framed, head_of, padding, summed, tail_of}
+use Rattle.rpm_pkgdb.specs.Framing.{framed, head_of, padding, summed_bytes, tail_of}
 use Rattle.rpm_pkgdb.specs.Slots.{slot_at, slot_with}
 use Rattle.rpm_pkgdb.specs.Stays.{blocks_with}
-use Rattle.rpm_pkgdb.specs.Store.{Keeps, Store}
+use Rattle.rpm_pkgdb.specs.Store.{KeepsStore, Store}
 use Rattle.rpm_pkgdb.specs.Undamaged.{IsMade}
-use Rattle.rpm_pkgdb.specs.inner.Clear.{Holds}
-use Rattle.rpm_db.proofs.Vocabulary.{option_map, Slot, unindexed, verdict, verdict_of}
+use Rattle.rpm_pkgdb.specs.inner.Clear.{HasUnits}
+use Rattle.rpm_db.proofs.Vocabulary.{option_map, Slot, without_index, verdict, verdict_of}
 use Rattle.rpm_pkgdb.proofs.Facts.{number_facts}
 use Rattle.rpm_pkgdb.proofs.FramingLaws.{frame, framed_frame, held_part, length-tail_of}
 use Rattle.rpm_pkgdb.proofs.Made.{made}
@@ -22,7 +22,7 @@ use Rattle.rpm_pkgdb.proofs.Places.{Search, Here, Nowhere, search_for}
 -- ---- blocks that have the same bytes
 
 -- a range of a file stands where it does
-holds_part : (file : Units) (at n : ℕ) → at + n ≤ length file → Holds file at (take n (drop at file))
+holds_part : (file : Units) (at n : ℕ) → at + n ≤ length file → HasUnits file at (take n (drop at file))
 holds_part file at n inside =
     let long : length (take n (drop at file)) ≡ n = omega (arith, length-take n (drop at file), length-drop at file) in
     record {
@@ -31,8 +31,8 @@ holds_part file at n inside =
     }
 
 -- the same units in two slots are one frame
-frame_held : (n : ℕ) (a b : Units) (s t : Slot) (us : Units) → length us ≡ s.count → t.count ≡ s.count → 0 < s.count → Holds a s.offset us
-    → Holds b t.offset us → frame_of n t b ≡ frame_of n s a
+frame_held : (n : ℕ) (a b : Units) (s t : Slot) (us : Units) → length us ≡ s.count → t.count ≡ s.count → 0 < s.count → HasUnits a s.offset us
+    → HasUnits b t.offset us → frame_of n t b ≡ frame_of n s a
 frame_held n a b s t us long count some in_a in_b =
     let lt : 0 < length us = omega (arith, long, some) in
     let le : 1 ≤ length us = omega arith in
@@ -45,7 +45,7 @@ frame_held n a b s t us long count some in_a in_b =
     ap (λ (k : ℕ). if is_framed n k (blocks_at t b) then Some (blocks_at t b) else None) count
     ∙ ap (λ (x : Frame). if is_framed n s.count x then Some x else None) f
 
-module _ (a b : Units) (st ut : Store) (keeps_a : Keeps a st) (keeps_b : Keeps b ut) (made_a : 1 ≤ st.pages) (made_b : 1 ≤ ut.pages) where
+module _ (a b : Units) (st ut : Store) (keeps_a : KeepsStore a st) (keeps_b : KeepsStore b ut) (made_a : 1 ≤ st.pages) (made_b : 1 ≤ ut.pages) where
   -- a package's frame is the one from before where its blocks have the bytes from before
   frames_stay : (n : ℕ) → blocks_with n ut b ≡ blocks_with n st a → frames b ut n ≡ frames a st n
   frames_stay n same = either (search_for n st.slots) (search_for n ut.slots)
@@ -73,10 +73,10 @@ module _ (a b : Units) (st ut : Store) (keeps_a : Keeps a st) (keeps_b : Keeps b
           omega (arith, length-take t.count (drop t.offset b), length-drop t.offset b, in_b.inside) in
           let count : t.count ≡ s.count = sym long' ∙ ap length units ∙ long in
           rw (is, is') (ap (λ (f : Option Frame). Some f) (frame_held n a b s t us long count in_a.some (holds_part a s.offset s.count in_a.inside)
-          (subst (Holds b t.offset) units (holds_part b t.offset t.count in_b.inside))))
+          (subst (HasUnits b t.offset) units (holds_part b t.offset t.count in_b.inside))))
 
   -- and so is what verifying says of it
-  pub verdict_stays : (n : ℕ) → blocks_with n ut b ≡ blocks_with n st a → verdict b (unindexed ut) n ≡ verdict a (unindexed st) n
+  pub verdict_stays : (n : ℕ) → blocks_with n ut b ≡ blocks_with n st a → verdict b (without_index ut) n ≡ verdict a (without_index st) n
   verdict_stays n same =
       ap (λ (blob : Option (Option (List ℕ))). verdict_of blob (checksums_hold b ut n)) (get-blobs-frames b ut n)
       ∙ ap (λ (f : Option (Option Frame)). verdict_of (option_map (option_map blob_in) f) (option_map (option_map checksum_holds) f)) (frames_stay n same)
@@ -97,10 +97,10 @@ module _ (n g : ℕ) (b : List ℕ) where
   front = b ++ padding (length b)
 
   abbrev last : List ℕ
-  last = tail_of (adler (summed n g b)) (length b)
+  last = tail_of (adler (summed_bytes n g b)) (length b)
 
   long : length (front ++ last) - 12 ≡ length front
-  long = omega (arith, length-append front last, length-tail_of (adler (summed n g b)) (length b))
+  long = omega (arith, length-append front last, length-tail_of (adler (summed_bytes n g b)) (length b))
 
   the_last : tail (front ++ last) ≡ last
   the_last =
@@ -114,10 +114,10 @@ module _ (n g : ℕ) (b : List ℕ) where
   checksum_right : checksum_holds (frame n g b) ≡ true
   unfolding checksum_holds
   checksum_right =
-      eq-eqb _ _ (ap (word 0) the_last ∙ tail-sum (adler (summed n g b)) (length b) (adler_fits (summed n g b))
+      eq-eqb _ _ (ap (word 0) the_last ∙ tail-sum (adler (summed_bytes n g b)) (length b) (adler_fits (summed_bytes n g b))
       ∙ ap adler (ap (λ (bs : List ℕ). head_of n g (length b) ++ bs) (sym the_front)))
 
-module _ (file : Units) (value : Store) (s : Slot) (g : ℕ) (b : List ℕ) (keeps : Keeps file value) (some : 1 ≤ value.pages)
+module _ (file : Units) (value : Store) (s : Slot) (g : ℕ) (b : List ℕ) (keeps : KeepsStore file value) (some : 1 ≤ value.pages)
     (is : slot_with s.number value.slots ≡ Some s) (count : s.count ≡ blocks_for (length b)) (fits_n : s.number < 2 ^ 32) (fits_g : g < 2 ^ 32)
     (few : length b ≤ 68157432) (stands : take s.count (drop s.offset file) ≡ units_of (framed s.number g b)) where
   inside : s.offset + s.count ≤ length file
@@ -131,7 +131,7 @@ module _ (file : Units) (value : Store) (s : Slot) (g : ℕ) (b : List ℕ) (kee
 
   written_frame : frames file value s.number ≡ Some (Some (frame s.number g b))
   written_frame =
-      rw is (ap (λ (f : Option Frame). Some f) (framed_frame s.number g b fits_n fits_g few file s count (subst (Holds file s.offset) stands
+      rw is (ap (λ (f : Option Frame). Some f) (framed_frame s.number g b fits_n fits_g few file s count (subst (HasUnits file s.offset) stands
       (holds_part file s.offset s.count inside))))
 
   pub written_sum : (sum : Option Bool) → checksums_hold file value s.number ≡ Some sum → sum ≡ Some true

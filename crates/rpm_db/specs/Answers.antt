@@ -14,25 +14,25 @@ use Rattle.rpm_db.specs.State as state
 use Rattle.rpm_db.specs.State.{Package, Good, package_of}
 
 -- a Good header's own bytes, or why there are none
-abbrev pub GetIs : Option Package → Result (Vec ℕ Global) GetFault → Type 0
-GetIs said (Ok v) = said ≡ Some (Good v.items)
-GetIs said (Err NoSuch) = said ≡ None
-GetIs said (Err Bad) = said ≡ Some state.Bad
-GetIs said (Err DiskFault) = Unit {0}
-GetIs said (Err NoMemory) = Unit {0}
+abbrev pub GetAnswer : Option Package → Result (Vec ℕ Global) GetFault → Type 0
+GetAnswer said (Ok v) = said ≡ Some (Good v.items)
+GetAnswer said (Err NoSuch) = said ≡ None
+GetAnswer said (Err Bad) = said ≡ Some state.Bad
+GetAnswer said (Err DiskFault) = Unit {0}
+GetAnswer said (Err NoMemory) = Unit {0}
 
 -- bytes that the package is read from, what follows its header among them; Bad is a broken framing alone
-abbrev pub ReadIs : Option Package → Result (Vec ℕ Global) GetFault → Type 0
-ReadIs said (Ok v) = said ≡ Some (package_of (Some v.items))
-ReadIs said (Err fault) = GetIs said (Err fault)
+abbrev pub ReadAnswer : Option Package → Result (Vec ℕ Global) GetFault → Type 0
+ReadAnswer said (Ok v) = said ≡ Some (package_of (Some v.items))
+ReadAnswer said (Err fault) = GetAnswer said (Err fault)
 
 -- a verdict of each number that is there
-abbrev pub VerifyIs : Option Verdict → Result Verdict GetFault → Type 0
-VerifyIs said (Ok v) = said ≡ Some v
-VerifyIs said (Err NoSuch) = said ≡ None
-VerifyIs said (Err Bad) = ⊥
-VerifyIs said (Err DiskFault) = Unit {0}
-VerifyIs said (Err NoMemory) = Unit {0}
+abbrev pub VerifyAnswer : Option Verdict → Result Verdict GetFault → Type 0
+VerifyAnswer said (Ok v) = said ≡ Some v
+VerifyAnswer said (Err NoSuch) = said ≡ None
+VerifyAnswer said (Err Bad) = ⊥
+VerifyAnswer said (Err DiskFault) = Unit {0}
+VerifyAnswer said (Err NoMemory) = Unit {0}
 
 -- a package's own bytes, or Bad
 abbrev pub CutIs : Package → Result (Vec ℕ Global) GetFault → Type 0
@@ -42,8 +42,9 @@ CutIs p (Err _) = ⊥
 
 -- the chain of a key's bucket
 abbrev pub key_chain : ℕ → List ℕ → Units → Result (List ℕ) ℕ
-key_chain kind key idx = chain (index_in (buckets_of (unit_at idx 0)) idx) (hash_of kind key % buckets_of (unit_at idx 0))
+key_chain kind key idx =
+    chain (index_in (buckets_of (unit_at idx 0)) idx) (hash_of kind key % buckets_of (unit_at idx 0))
 
 -- what can be found exactly where that chain has no fault
-abbrev pub FoundIs : {A : Type 0} → Result (List ℕ) ℕ → Result A FindFault → Type 0
-FoundIs said found = FindIs (λ places hits. Unit {0}) said found
+abbrev pub FindAnswer : {A : Type 0} → Result (List ℕ) ℕ → Result A FindFault → Type 0
+FindAnswer said found = FindIs (λ places hits. Unit {0}) said found

@@ -3,14 +3,14 @@ use Rattle.std.specs.Prelude.{◌≡◌, ◌⊎◌, ℕ, ◌+◌, List, [], ◌�
 use Rattle.std.specs.FinMap as finite
 use Rattle.rpm_outside.specs.declared.disk.File.TheVariants.{Idx}
 use Rattle.rpm_outside.specs.Files.{Units, Files}
-use Rattle.rpm_outside.specs.Changes.{IsSettled}
+use Rattle.rpm_outside.specs.Changes.{IsDurable}
 use Rattle.rpm_pkgdb.specs.declared.added_page.Move.{Move}
 use Rattle.rpm_pkgdb.specs.Costs.{cost}
 use Rattle.rpm_pkgdb.specs.Growing.{NeedsPage, moving_cost}
 use Rattle.rpm_pkgdb.specs.Quiet.{IsQuiet}
 use Rattle.rpm_pkgdb.specs.Store.{Store, store}
 use Rattle.rpm_pkgdb.specs.Written.{with_spare}
-use Rattle.rpm_db.specs.Database.{Database, Keeps, KeepsIndex, database_of, room}
+use Rattle.rpm_db.specs.Database.{Database, Keeps, KeepsIndex, database_of, store_of}
 use Rattle.rpm_db.specs.Lawful.{IsLawful}
 use Rattle.rpm_db.specs.State.{State, Good, state}
 
@@ -45,7 +45,8 @@ apply (Erase n) s = record { packages = finite.remove s.packages n; field = s.fi
 
 -- the state before a change, the packages before it with the field after it, or the state after it
 abbrev pub IsBetween : State → State → State → Type 0
-IsBetween before after s = (s ≡ before) ⊎ ((s ≡ record { packages = before.packages; field = after.field }) ⊎ (s ≡ after))
+IsBetween before after s =
+    (s ≡ before) ⊎ ((s ≡ record { packages = before.packages; field = after.field }) ⊎ (s ≡ after))
 
 -- an undamaged Packages.db that says such a state
 pub record Says (P : State → Type 0) (pkg : Units) : Type 0 where
@@ -57,7 +58,8 @@ pub record Says (P : State → Type 0) (pkg : Units) : Type 0 where
 abbrev pub AllSay : State → (Files → Type 0) → Type 0
 AllSay s images = (image : Files) → images image → Says (λ t. t ≡ s) image.pkg
 
--- a lawful image with the log of one of these: its packages and its number field are those of that one too, or of this state or the next
+-- a lawful image with the log of one of these: its packages and its number field are those of that one too, or of this
+-- state or the next
 pub record IsChangedStill (before after : State) (images : Files → Type 0) (image : Files) : Type 0 where
   pub from : Files
   pub was : images from
@@ -67,18 +69,20 @@ pub record IsChangedStill (before after : State) (images : Files → Type 0) (im
 
 -- ---- what a changing call asks for and leaves
 
--- what a value keeps is what the files say, each stop leaves the same packages, and the index is settled
+-- what a value keeps is what the files say, each crash leaves the same packages, and the index is durable
 pub record IsServing (files : Files) (images : Files → Type 0) (db : Database) : Type 0 where
   pub keeps : Keeps files.pkg db
   pub index : KeepsIndex files.idx db
-  pub quiet : IsQuiet (room db) files images
-  pub settled : IsSettled Idx files images
+  pub quiet : IsQuiet (store_of db) files images
+  pub durable : IsDurable Idx files images
 
 -- a value that may have made room in memory, and is the same
 abbrev pub with_room : ℕ → Database → Database
-with_room spare db = database_of (with_spare spare (room db)) db.index db.stopped
+with_room spare db = database_of (with_spare spare (store_of db)) db.index db.stopped
 
--- what putting reads at most of Packages.db: the package that a number has; and for a new number the ranges that a slot page moves, if one is added
+-- what putting reads at most of Packages.db: the package that a number has; and for a new number the ranges that a slot
+-- page moves, if one is added
 abbrev pub ReadsAtMost : Option ℕ → Store → ℕ → ℕ → Type 0
 ReadsAtMost (Some n) value old new = new ≤ old + cost n value
-ReadsAtMost None value old new = (new ≤ old) ⊎ ((moves : Option (List Move)) × NeedsPage value true moves × (new ≤ old + moving_cost value.slots moves))
+ReadsAtMost None value old new = (new ≤ old) ⊎ ((moves : Option (List Move)) × NeedsPage value true moves
+    × (new ≤ old + moving_cost value.slots moves))

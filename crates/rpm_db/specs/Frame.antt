@@ -1,14 +1,15 @@
--- What stands around a call on a database: the disk, by the ghost members of its kind, which a clause names `D.Disk`. Short words for all clauses.
+-- What stands around a call on a database: the disk, by the ghost members of its kind, which a clause names `D.Disk`.
+-- Short words for all clauses.
 use Rattle.std.specs.Prelude.{IsTrue}
 use Rattle.std.specs.Ordering.{nat_cmp}
 use Rattle.std.specs.FinMap.{FinMap}
 use Rattle.rpm_outside.specs.declared.disk.Disk as disk
 use Rattle.rpm_outside.specs.Files.{Files}
-use Rattle.rpm_outside.specs.Frame.{DiskFault, LeavesIn, images}
+use Rattle.rpm_outside.specs.Frame.{DiskFault, CrashLeaves, images}
 use Rattle.rpm_db.specs.Changes as changes
 use Rattle.rpm_db.specs.Changes.{Change, IsChangedStill, apply}
 use Rattle.rpm_db.specs.Database.{Database, Keeps, KeepsIndex}
-pub use Rattle.rpm_db.specs.Database.{room}
+use Rattle.rpm_db.specs.Database.{store_of}
 use Rattle.rpm_db.specs.Database as database
 use Rattle.rpm_db.specs.Lawful.{AreLawful}
 use Rattle.rpm_db.specs.Runs as runs
@@ -25,14 +26,14 @@ module _ {D : Type 0} (d : disk.Ghosts D) where
     pub cause : DiskFault d what old new
 
   -- the value of a database is that of Packages.db as it reads
-  abbrev pub Kept : D → Database → Type 0
-  Kept it db = IsTrue d.tells → Keeps (d.files it).pkg db
+  abbrev pub IsStoreKept : D → Database → Type 0
+  IsStoreKept it db = IsTrue d.tells → Keeps (d.files it).pkg db
 
   -- a database's index is what Hindex.db says on this disk
-  abbrev pub KeptIndex : D → Database → Type 0
-  KeptIndex it db = IsTrue d.tells → KeepsIndex (d.files it).idx db
+  abbrev pub IsIndexKept : D → Database → Type 0
+  IsIndexKept it db = IsTrue d.tells → KeepsIndex (d.files it).idx db
 
-  -- a database serves on this disk: each crash leaves the same packages, and the index is settled
+  -- a database serves on this disk: each crash leaves the same packages, and the index is durable
   abbrev pub Serving : D → Database → Type 0
   Serving it db = IsTrue d.tells → changes.IsServing (d.files it) (d.left_since it (d.moment it)) db
 
@@ -40,15 +41,16 @@ module _ {D : Type 0} (d : disk.Ghosts D) where
   abbrev pub IsIndexed : D → Database → Type 0
   IsIndexed it db = database.IsIndexed (d.files it).pkg (d.files it).idx db
 
-  -- the state that a database stands for on this disk
+  -- the state that a database represents on this disk
   abbrev pub state_in : D → Database → State
-  state_in it db = state (d.files it).pkg (room db)
+  state_in it db = state (d.files it).pkg (store_of db)
 
   -- a database's packages on this disk
   abbrev pub packages_in : D → Database → FinMap nat_cmp Package
-  packages_in it db = packages (d.files it).pkg (room db)
+  packages_in it db = packages (d.files it).pkg (store_of db)
 
-  -- a crash meanwhile leaves lawful files with the packages from before a change or after it, where those at the start are lawful
+  -- a crash meanwhile leaves lawful files with the packages from before a change or after it, where those at the start
+  -- are lawful
   abbrev pub StaysBetween : D → D → Change → Database → Type 0
   StaysBetween old new change db = IsTrue d.tells → AreLawful (images d old)
-      → LeavesIn d old new (IsChangedStill (state_in old db) (apply change (state_in old db)) (images d old))
+      → CrashLeaves d old new (IsChangedStill (state_in old db) (apply change (state_in old db)) (images d old))

@@ -3,12 +3,12 @@ use Rattle.std.specs.Prelude.{◌≡◌, ◌⊎◌, ◌≤◌, ℕ, Bool, List, 
 use Rattle.std.specs.Ordering.{nat_cmp}
 use Rattle.std.specs.FinMap.{FinMap}
 use Rattle.rpm_outside.specs.declared.disk.Disk as disk
-use Rattle.rpm_outside.specs.Frame.{LeavesIn, images}
+use Rattle.rpm_outside.specs.Frame.{CrashLeaves, images}
 use Rattle.rpm_outside.specs.Files.{Units, Files, unit_at, blank}
 use Rattle.rpm_pkgdb.specs.Store.{Store, store, blank_store}
 use Rattle.rpm_hindex.specs.Index.{records}
 use Rattle.rpm_hindex.specs.Rows.{Row, SameRows}
-use Rattle.rpm_hindex.specs.State.{state_of, sealed, buckets_of, is_current}
+use Rattle.rpm_hindex.specs.State.{opened_state, sealed, buckets_of, is_current}
 use Rattle.rpm_hindex.specs.Whole.{IsWellFormed}
 use Rattle.rpm_db.specs.State.{Package, packages}
 use Rattle.rpm_db.specs.Rows.{rows}
@@ -24,7 +24,7 @@ pub record HasRows (packages : FinMap nat_cmp Package) (idx : Units) : Type 0 wh
 
 -- an index is sealed at this generation, and its first two units are in order
 abbrev pub is_current_at : ℕ → Units → Bool
-is_current_at generation idx = is_current generation (state_of idx)
+is_current_at generation idx = is_current generation (opened_state idx)
 
 -- where the index is current it holds the rows of the packages, and it isn't sealed at a later generation
 pub record Agrees (value : Store) (pkg idx : Units) : Type 0 where
@@ -79,4 +79,4 @@ pub record IsLawfulStill (images : Files → Type 0) (image : Files) : Type 0 wh
 
 -- a crash at any moment since then leaves such an image, where those at the start are lawful
 abbrev pub StaysLawful : {D : Type 0} → disk.Ghosts D → D → D → Type 0
-StaysLawful d old new = AreLawful (images d old) → LeavesIn d old new (IsLawfulStill (images d old))
+StaysLawful d old new = AreLawful (images d old) → CrashLeaves d old new (IsLawfulStill (images d old))

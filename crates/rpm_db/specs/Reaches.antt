@@ -12,18 +12,18 @@ use Rattle.rpm_db.specs.Rows.{rows, package_rows, rows_at}
 use Rattle.rpm_db.specs.State.{State, Good}
 
 -- the units of the records that a change may add
-abbrev pub added : State → Change → ℕ
-added s (Add bytes) = live_of (package_rows (next s) (Good bytes))
-added s (Put n bytes) = live_of (package_rows n (Good bytes))
-added s (Erase n) = 0
+abbrev pub added_units : State → Change → ℕ
+added_units s (Add bytes) = live_of (package_rows (next s) (Good bytes))
+added_units s (Put n bytes) = live_of (package_rows n (Good bytes))
+added_units s (Erase n) = 0
 
 -- the units of an index of all rows after it, made from scratch
-abbrev pub needed : State → Change → ℕ
-needed s change = units_for (rows (apply change s).packages)
+abbrev pub units_needed_after : State → Change → ℕ
+units_needed_after s change = units_for (rows (apply change s).packages)
 
 -- the file gets those records after what it has, or is made from scratch; it never gets shorter
 abbrev pub Reaches : State → Change → Units → Units → Type 0
-Reaches s change old new = length new ≤ max (length old + added s change) (needed s change)
+Reaches s change old new = length new ≤ max (length old + added_units s change) (units_needed_after s change)
 
 -- the file has what it had, or so many units: those of an index that was rebuilt
 abbrev pub ReachesMade : ℕ → Units → Units → Type 0

@@ -2,14 +2,16 @@
 use Rattle.std.specs.Prelude.{◌≡◌, ◌≢◌, ℕ, ◌<◌, ◌≤◌, ◌^◌, Bool, List, length, true, false, Result, Ok, Err}
 use Rattle.rpm_outside.specs.Files.{Units, unit_at}
 use Rattle.rpm_header.specs.Header.{Header, header}
-use Rattle.rpm_pkgdb.specs.Planned.{IsFull}
+use Rattle.rpm_pkgdb.specs.Planned.{IsStoreFull}
 use Rattle.rpm_hindex.specs.Refusals as hindex
 use Rattle.rpm_hindex.specs.Rows.{Row}
 use Rattle.rpm_hindex.specs.State.{buckets_of}
 use Rattle.rpm_hindex.specs.declared.faults.PrepareFault.TheVariants as prepare
 use Rattle.rpm_db.specs.declared.change_fault.ChangeFault.{ChangeFault}
-use Rattle.rpm_db.specs.declared.change_fault.ChangeFault.TheVariants.{BadHeader, NoSuch, NumbersSpent, GenerationSpent, StoreFull, IndexFull, BadIndex, Stopped, DiskFault, NoMemory}
-use Rattle.rpm_db.specs.Database.{Database, generation_of, holds, next_number, room}
+use Rattle.rpm_db.specs.declared.change_fault.ChangeFault.TheVariants.{BadHeader, NoSuch, NumbersSpent, GenerationSpent}
+use Rattle.rpm_db.specs.declared.change_fault.ChangeFault.TheVariants.{StoreFull, IndexFull, BadIndex, Stopped}
+use Rattle.rpm_db.specs.declared.change_fault.ChangeFault.TheVariants.{DiskFault, NoMemory}
+use Rattle.rpm_db.specs.Database.{Database, generation_of, holds, next_package_number, store_of}
 use Rattle.rpm_db.specs.Lawful.{IsWholeIndex}
 
 -- after the header and the number: the generation, and then the room in the store; the index comes last
@@ -28,11 +30,12 @@ LaterIs generation full (Ok done) = (generation ≢ 4294967295) × ¬ full
 LaterIs generation full (Err fault) = LaterCause generation full fault
 
 -- a header goes under a new number or under one that is there, or is refused for this
-pub record PutsHeader {A : Type 0} (db : Database) (is_new : Bool) (bytes : List ℕ) (result : Result A ChangeFault) : Type 0 where
+pub record PutsHeader {A : Type 0} (db : Database) (is_new : Bool) (bytes : List ℕ)
+    (result : Result A ChangeFault) : Type 0 where
   pub going : db.stopped ≡ false
   pub own : Header
   pub read : header bytes ≡ Ok own
-  pub later : LaterIs (generation_of db) (IsFull (room db) is_new (length own.blob)) result
+  pub later : LaterIs (generation_of db) (IsStoreFull (store_of db) is_new (length own.blob)) result
 
 -- a value that isn't stopped, and bytes that are a header
 pub record IsRead (db : Database) (bytes : List ℕ) : Type 0 where
@@ -41,18 +44,18 @@ pub record IsRead (db : Database) (bytes : List ℕ) : Type 0 where
   pub read : header bytes ≡ Ok own
 
 -- adding
-abbrev pub AddIs : {A : Type 0} → Database → List ℕ → Result A ChangeFault → Type 0
-AddIs db bytes (Err Stopped) = db.stopped ≡ true
-AddIs db bytes (Err (BadHeader fault)) = (db.stopped ≡ false) × (header bytes ≡ Err fault)
-AddIs db bytes (Err NumbersSpent) = IsRead db bytes × (next_number db ≡ 4294967295)
-AddIs db bytes result = (next_number db ≢ 4294967295) × PutsHeader db true bytes result
+abbrev pub AddAnswer : {A : Type 0} → Database → List ℕ → Result A ChangeFault → Type 0
+AddAnswer db bytes (Err Stopped) = db.stopped ≡ true
+AddAnswer db bytes (Err (BadHeader fault)) = (db.stopped ≡ false) × (header bytes ≡ Err fault)
+AddAnswer db bytes (Err NumbersSpent) = IsRead db bytes × (next_package_number db ≡ 4294967295)
+AddAnswer db bytes result = (next_package_number db ≢ 4294967295) × PutsHeader db true bytes result
 
 -- putting
-abbrev pub PutIs : {A : Type 0} → Database → ℕ → List ℕ → Result A ChangeFault → Type 0
-PutIs db n bytes (Err Stopped) = db.stopped ≡ true
-PutIs db n bytes (Err (BadHeader fault)) = (db.stopped ≡ false) × (header bytes ≡ Err fault)
-PutIs db n bytes (Err NoSuch) = IsRead db bytes × (holds n db ≡ false)
-PutIs db n bytes result = (holds n db ≡ true) × PutsHeader db false bytes result
+abbrev pub PutAnswer : {A : Type 0} → Database → ℕ → List ℕ → Result A ChangeFault → Type 0
+PutAnswer db n bytes (Err Stopped) = db.stopped ≡ true
+PutAnswer db n bytes (Err (BadHeader fault)) = (db.stopped ≡ false) × (header bytes ≡ Err fault)
+PutAnswer db n bytes (Err NoSuch) = IsRead db bytes × (holds n db ≡ false)
+PutAnswer db n bytes result = (holds n db ≡ true) × PutsHeader db false bytes result
 
 -- erasing
 abbrev pub EraseCause : Database → ℕ → ChangeFault → Type 0
@@ -61,9 +64,9 @@ EraseCause db n NoSuch = (db.stopped ≡ false) × (holds n db ≡ false)
 EraseCause db n fault = (db.stopped ≡ false) × (holds n db ≡ true) × LaterCause (generation_of db) ⊥ fault
 
 -- an erasure that was made had its package there; one that was refused has its cause
-abbrev pub EraseIs : {A : Type 0} → Database → ℕ → Result A ChangeFault → Type 0
-EraseIs db n (Ok done) = (db.stopped ≡ false) × (holds n db ≡ true) × LaterIs (generation_of db) ⊥ (Ok done)
-EraseIs db n (Err fault) = EraseCause db n fault
+abbrev pub EraseAnswer : {A : Type 0} → Database → ℕ → Result A ChangeFault → Type 0
+EraseAnswer db n (Ok done) = (db.stopped ≡ false) × (holds n db ≡ true) × LaterIs (generation_of db) ⊥ (Ok done)
+EraseAnswer db n (Err fault) = EraseCause db n fault
 
 -- ---- the index
 
@@ -78,7 +81,8 @@ abbrev pub FullIndexIs : {A : Type 0} → ℕ → Result A ChangeFault → Type 
 FullIndexIs needed (Ok done) = needed ≤ 2 ^ 28
 FullIndexIs needed (Err fault) = FullCause needed fault
 
--- a fault that names a unit names the fault of a chain, or unit 1, where these rows, which go, are more than that counts
+-- a fault that names a unit names the fault of a chain, or unit 1, where these rows, which go, are more than that
+-- counts
 abbrev pub BadCause : List Row → Units → ChangeFault → Type 0
 BadCause drops idx (BadIndex unit) = hindex.IsBadFor drops (buckets_of (unit_at idx 0)) idx (prepare.BadIndex unit)
 BadCause drops idx _ = Unit {0}
@@ -115,12 +119,12 @@ IsOfReading NoMemory = Unit {0}
 IsOfReading _ = ⊥
 
 -- a fault of taking a package out of the store alone
-abbrev pub IsOfErasing : ChangeFault → Type 0
-IsOfErasing NoSuch = Unit {0}
-IsOfErasing GenerationSpent = Unit {0}
-IsOfErasing DiskFault = Unit {0}
-IsOfErasing NoMemory = Unit {0}
-IsOfErasing _ = ⊥
+abbrev pub IsOfStoreErasing : ChangeFault → Type 0
+IsOfStoreErasing NoSuch = Unit {0}
+IsOfStoreErasing GenerationSpent = Unit {0}
+IsOfStoreErasing DiskFault = Unit {0}
+IsOfStoreErasing NoMemory = Unit {0}
+IsOfStoreErasing _ = ⊥
 
 -- a fault of working out a change of the index
 abbrev pub IsOfIndex : ChangeFault → Type 0

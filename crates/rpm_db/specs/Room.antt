@@ -2,20 +2,20 @@
 use Rattle.std.specs.Prelude.{◌≡◌, ◌+◌, length, Option, Some, None, IsSome, Result, Ok, Err}
 use Rattle.rpm_pkgdb.specs.Placing.{put_in}
 use Rattle.rpm_pkgdb.specs.Store.{Store}
-use Rattle.rpm_pkgdb.specs.Written.{erased, with_generation, with_spare}
+use Rattle.rpm_pkgdb.specs.Written.{without_number, with_generation, with_spare}
 use Rattle.rpm_db.specs.declared.change_fault.ChangeFault.{ChangeFault}
 use Rattle.rpm_db.specs.declared.change_fault.ChangeFault.TheVariants.{StoreFull, IndexFull, BadIndex}
 use Rattle.rpm_db.specs.Changes.{Change, Add, Put, Erase}
 
 -- a store with the same slots under the next generation
-abbrev pub raised : Store → Store
-raised value = with_generation (value.generation + 1) value
+abbrev pub raised_store : Store → Store
+raised_store value = with_generation (value.generation + 1) value
 
 -- the store after a change: its slots, number field and generation; None where it is full
 abbrev pub next_store : Change → Store → Option Store
-next_store (Add bytes) value = put_in None (length bytes) (raised value)
-next_store (Put n bytes) value = put_in (Some n) (length bytes) (raised value)
-next_store (Erase n) value = Some (erased n (raised value))
+next_store (Add bytes) value = put_in None (length bytes) (raised_store value)
+next_store (Put n bytes) value = put_in (Some n) (length bytes) (raised_store value)
+next_store (Erase n) value = Some (without_number n (raised_store value))
 
 -- a store becomes the one that is said, up to room in memory
 abbrev pub RoomBecomes : Option Store → Store → Store → Type 0

@@ -15,7 +15,8 @@ use Rattle.rpm_db.specs.State.{Package, Good, Bad}
 -- all kinds, by their codes
 abbrev pub kinds : List Kind
 kinds =
-    kind.Name ∷ kind.Basenames ∷ kind.Group ∷ kind.Providename ∷ kind.Requirename ∷ kind.Conflictname ∷ kind.Obsoletename ∷ kind.Triggername
+    kind.Name ∷ kind.Basenames ∷ kind.Group ∷ kind.Providename ∷ kind.Requirename ∷ kind.Conflictname
+    ∷ kind.Obsoletename ∷ kind.Triggername
     ∷ kind.Dirnames ∷ kind.Installtid ∷ kind.Recommendname ∷ []
 
 -- the row of a key and its place, in a package of this number

@@ -4,7 +4,7 @@ use Rattle.rpm_outside.specs.declared.disk.Disk as disk
 use Rattle.rpm_outside.specs.declared.disk.File.{File}
 use Rattle.rpm_outside.specs.declared.disk.File.TheVariants.{Log}
 use Rattle.rpm_outside.specs.Files.{Files}
-use Rattle.rpm_outside.specs.Leaves.{LeavesOnly}
+use Rattle.rpm_outside.specs.Leaves.{CrashLeavesOnly}
 
 -- the log stays
 abbrev pub SameLog : Files → Files → Type 0
@@ -15,7 +15,7 @@ abbrev pub SameFiles : Files → Files → Type 0
 SameFiles from image = image ≡ from
 
 -- an image that came so of one of these
-pub record CameOf (P : Files → Files → Type 0) (images : Files → Type 0) (image : Files) : Type 0 where
+pub record ImageFrom (P : Files → Files → Type 0) (images : Files → Type 0) (image : Files) : Type 0 where
   pub from : Files
   pub was : images from
   pub came : P from image
@@ -28,7 +28,8 @@ pub record ReadsNoLog (old new : File → ℕ) : Type 0 where
 -- the files, and each image since the start, come so of those before
 pub record Runs {D : Type 0} (g : disk.Ghosts D) (P : Files → Files → Type 0) (old new : D) : Type 0 where
   pub reads_as : IsTrue g.tells → P (g.files old) (g.files new)
-  pub now : IsTrue g.tells → (image : Files) → g.left_since new (g.moment new) image → CameOf P (g.left_since old (g.moment old)) image
-  pub any_moment : IsTrue g.tells → LeavesOnly g old new (CameOf P (g.left_since old (g.moment old)))
+  pub now : IsTrue g.tells → (image : Files) → g.left_since new (g.moment new) image
+      → ImageFrom P (g.left_since old (g.moment old)) image
+  pub any_moment : IsTrue g.tells → CrashLeavesOnly g old new (ImageFrom P (g.left_since old (g.moment old)))
   pub reads : ReadsNoLog (g.bytes_read old) (g.bytes_read new)
   pub goes_on : g.follows old new

@@ -32,7 +32,7 @@ pub record State : Type 0 where
   pub packages : FinMap nat_cmp Package
   pub field : ℕ
 
--- the packages and the number field that the store stands for
+-- the packages and the number field that the store represents
 abbrev pub state : Units → Store → State
 state file store = record { packages = packages file store; field = store.field }
 

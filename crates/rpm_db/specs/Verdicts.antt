@@ -12,16 +12,16 @@ use Rattle.rpm_pkgdb.specs.Checksums.{checksums_hold}
 use Rattle.rpm_tags.specs.Value.{first_text}
 use Rattle.rpm_db.specs.declared.verify.Verdict.{Verdict}
 use Rattle.rpm_db.specs.declared.verify.Verdict.TheVariants.{Sound, BadHeader, BadChecksum, BadDigest}
-use Rattle.rpm_db.specs.Database.{Database, room}
+use Rattle.rpm_db.specs.Database.{Database, store_of}
 
 -- a digest differs from its text when both are there, and the text isn't the digest in lower-case hex
-abbrev pub differs : Option (List ℕ) → Option (List ℕ) → Bool
-differs (Some digest) (Some text) = not (bytes_eq text (encode_lower digest))
-differs _ _ = false
+abbrev pub digest_differs : Option (List ℕ) → Option (List ℕ) → Bool
+digest_differs (Some digest) (Some text) = not (bytes_eq text (encode_lower digest))
+digest_differs _ _ = false
 
 -- a region of tag 63, and a text 273 that isn't its digest
 unfoldable pub is_digest_wrong : Header → Bool
-is_digest_wrong h = differs (immutable_digest h) (first_text h 273)
+is_digest_wrong h = digest_differs (immutable_digest h) (first_text h 273)
 
 -- given whether the checksum holds
 abbrev pub header_verdict : Bool → Result Header HeaderFault → Verdict
@@ -40,9 +40,10 @@ verdict_of _ _ = None
 
 -- what verifying says of a package, none where there is no such number
 abbrev pub verdict : Units → Database → ℕ → Option Verdict
-verdict file db n = verdict_of (finite.get (blobs file (room db)) n) (checksums_hold file (room db) n)
+verdict file db n = verdict_of (finite.get (blobs file (store_of db)) n) (checksums_hold file (store_of db) n)
 
--- verifying says of each package but one what it said before, and never of that one that its bytes or its header are broken
+-- verifying says of each package but one what it said before, and never of that one that its bytes or its header are
+-- broken
 pub record KeepsVerdicts (n : ℕ) (old new : Units) (before after : Database) : Type 0 where
   pub others : (m : ℕ) → m ≢ n → verdict new after m ≡ verdict old before m
   pub checksum : verdict new after n ≢ Some BadChecksum

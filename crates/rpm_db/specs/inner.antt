@@ -3,7 +3,6 @@ pub mod Both
 pub mod Edits
 pub mod Faults
 pub mod Filling
-pub mod LawfulLaws
 pub mod Making
 pub mod Order
 pub mod Writes

@@ -1,7 +1,7 @@
 //! A batch of changes of a database: the store changes at each, and the index once for all.
 
 ghost use Rattle.std.specs.Prelude.{◌≡◌, ◌⊎◌, ◌+◌, ◌≤◌, [], length, IsTrue, true, false, Err, OnOk, IfErr};
-ghost use Rattle.rpm_db.specs.Prelude.{AreLawful, cost, DiskFault, Erase, EraseIs, Gathers, generation_of, has_failed, images, is_indexed, IsGathering, IsLawfulStill, IsLeftSuspended, IsOfErasing, IsOfIndex, IsOfReading, IsOrdered, IsSettledUp, IsWholeIndex, LeavesIn, nothing, OwesOn, Pkg, resumed, room, Runs, SameLog, sealed_in, StaysWhole, suspended};
+ghost use Rattle.rpm_db.specs.Prelude.{AreLawful, package_cost, DiskFault, Erase, EraseAnswer, Gathers, generation_of, has_failed, images, is_indexed, IsGathering, IsLawfulStill, IsLeftSuspended, IsOfStoreErasing, IsOfIndex, IsOfReading, IsOrdered, HasItsRows, IsWholeIndex, CrashLeaves, no_row_changes, OwesOn, Pkg, resumed_database, store_of, Runs, SameLog, sealed_in, StaysWhole, suspended_database};
 
 use crate::change_fault::ChangeFault;
 use crate::database::Db;
@@ -40,8 +40,8 @@ impl Batch {
     pub fn begin(alloc: Global, db: &mut Db) -> Batch
         requires indexed { is_indexed db.old ≡ true }
         requires going { db.old.stopped ≡ false }
-        ensures none { result ≡ nothing }
-        ensures same { db.new ≡ suspended db.old }
+        ensures none { result ≡ no_row_changes }
+        ensures same { db.new ≡ suspended_database db.old }
         ensures goes { has_failed db.old ≡ false }
         ensures order { IsOrdered db.old.index }
         ensures sealed { sealed_in db.old.index ≡ generation_of db.old }
@@ -76,15 +76,15 @@ impl Batch {
         n: u32,
     ) -> Result<(), ChangeFault>
         requires gathering { IsGathering D.Disk disk.old db.old self.old }
-        ensures causes { EraseIs (resumed db.old) n result }
+        ensures causes { EraseAnswer (resumed_database db.old) n result }
         ensures gathers { Gathers D.Disk disk.old disk.new (Erase n) db.old db.new self.old self.new result }
-        ensures kinds { IfErr result IsOfErasing }
+        ensures kinds { IfErr result IsOfStoreErasing }
         ensures refused { (result ≡ Err ChangeFault.NoSuch) ⊎ (result ≡ Err ChangeFault.GenerationSpent)
             → (disk.new ≡ disk.old) × (db.new ≡ db.old) × (self.new ≡ self.old) }
         ensures left { IsLeftSuspended D.Disk disk.old disk.new db.new db.old [] result }
         ensures index { IsTrue D.tells → (D.files disk.new).idx ≡ (D.files disk.old).idx }
         ensures end { OnOk result (IsTrue D.tells → length (D.files disk.new).pkg ≤ length (D.files disk.old).pkg) }
-        ensures reads { D.bytes_read disk.new Pkg ≤ D.bytes_read disk.old Pkg + cost n db.old }
+        ensures reads { D.bytes_read disk.new Pkg ≤ D.bytes_read disk.old Pkg + package_cost n db.old }
         ensures runs { Runs D.Disk SameLog disk.old disk.new }
         ensures cause { DiskFault D.Disk (result ≡ Err ChangeFault.DiskFault) disk.old disk.new }
     {
@@ -119,16 +119,16 @@ impl Batch {
         disk: &mut D,
     ) -> Result<(), ChangeFault>
         requires gathering { IsGathering D.Disk disk.old db.old self }
-        ensures settled { OnOk result (IsSettledUp D.Disk disk.old disk.new db.old db.new self) }
+        ensures has_rows { OnOk result (HasItsRows D.Disk disk.old disk.new db.old db.new self) }
         ensures full { IsTrue D.tells → OwesOn D.Disk disk.old db.old self → IfErr result IsOfReading }
         ensures whole { IsTrue D.tells → IsWholeIndex (D.files disk.old).idx → StaysWhole (D.files disk.new).idx result }
         ensures kinds { IfErr result IsOfIndex }
         ensures unwritten { sealed_in db.old.index ≡ generation_of db.old → disk.new ≡ disk.old }
-        ensures store { room db.new ≡ room db.old }
+        ensures store { store_of db.new ≡ store_of db.old }
         ensures packages { IsTrue D.tells → (D.files disk.new).pkg ≡ (D.files disk.old).pkg }
         ensures left { IsLeftSuspended D.Disk disk.old disk.new db.new db.old self.drops result }
-        ensures stops { IsTrue D.tells → AreLawful (images D.Disk disk.old) → OwesOn D.Disk disk.old db.old self
-            → LeavesIn D.Disk disk.old disk.new (IsLawfulStill (images D.Disk disk.old)) }
+        ensures crashes { IsTrue D.tells → AreLawful (images D.Disk disk.old) → OwesOn D.Disk disk.old db.old self
+            → CrashLeaves D.Disk disk.old disk.new (IsLawfulStill (images D.Disk disk.old)) }
         ensures runs { Runs D.Disk SameLog disk.old disk.new }
         ensures cause { DiskFault D.Disk (result ≡ Err ChangeFault.DiskFault) disk.old disk.new }
     {

@@ -2,7 +2,7 @@
 
 ghost use Rattle.std.specs.Prelude.{◌≡◌, ◌⊎◌, ◌+◌, ◌++◌, ◌≤◌, length, IsTrue, is_none, None, Some, Ok, Err, OnOk, IfOk, IfErr};
 ghost use Rattle.std.specs.FinMap as finite;
-ghost use Rattle.rpm_db.specs.Prelude.{Add, AddIs, CanTake, change_for, cost, DiskFault, Gathers, generation_of, Header, header, HeaderFault, IsFull, IsGathering, IsLeftSuspended, IsWholeIndex, LaterIs, next_number, number_for, old_rows, packages_in, Pkg, Put, PutIs, ReachesTo, ReadsAtMost, resumed, room, rows_at, Runs, SameLog, WholeCause, with_room};
+ghost use Rattle.rpm_db.specs.Prelude.{Add, AddAnswer, CanTake, change_for, package_cost, DiskFault, Gathers, generation_of, Header, header, HeaderFault, IsStoreFull, IsGathering, IsLeftSuspended, IsWholeIndex, LaterIs, next_package_number, number_for, old_rows, packages_in, Pkg, Put, PutAnswer, ReachesTo, ReadsAtMost, resumed_database, store_of, rows_at, Runs, SameLog, WholeCause, with_room};
 
 use crate::batch::Batch;
 use crate::change_fault::ChangeFault;
@@ -30,15 +30,15 @@ impl Batch {
         blob: &[u8],
     ) -> Result<u32, ChangeFault>
         requires gathering { IsGathering D.Disk disk.old db.old self.old }
-        ensures causes { AddIs (resumed db.old) blob.now result }
-        ensures number { IfOk result (λ n. n ≡ next_number db.old) }
+        ensures causes { AddAnswer (resumed_database db.old) blob.now result }
+        ensures number { IfOk result (λ n. n ≡ next_package_number db.old) }
         ensures gathers { (h : Header) → header blob.now ≡ Ok h → Gathers D.Disk disk.old disk.new (Add h.blob) db.old db.new self.old self.new result }
         ensures whole { IsTrue D.tells → IsWholeIndex (D.files disk.old).idx → IfErr result WholeCause }
         ensures refused { (fault : HeaderFault) → result ≡ Err (ChangeFault.BadHeader fault)
             → (disk.new ≡ disk.old) × (db.new ≡ db.old) × (self.new ≡ self.old) }
-        ensures left { IsLeftSuspended D.Disk disk.old disk.new db.new (with_room (room db.new).spare db.old) self.old.drops result }
+        ensures left { IsLeftSuspended D.Disk disk.old disk.new db.new (with_room (store_of db.new).spare db.old) self.old.drops result }
         ensures index { IsTrue D.tells → (D.files disk.new).idx ≡ (D.files disk.old).idx }
-        ensures end { OnOk result (IsTrue D.tells → ReachesTo (room db.new) (D.files disk.old).pkg (D.files disk.new).pkg) }
+        ensures end { OnOk result (IsTrue D.tells → ReachesTo (store_of db.new) (D.files disk.old).pkg (D.files disk.new).pkg) }
         ensures runs { Runs D.Disk SameLog disk.old disk.new }
         ensures cause { DiskFault D.Disk (result ≡ Err ChangeFault.DiskFault) disk.old disk.new }
     {
@@ -47,7 +47,7 @@ impl Batch {
     }
 
     /// Adds a header that was parsed under the next number, and answers it: what [`Batch::add`] does of the header's own
-    /// bytes, which aren't checked again. It writes and reads as much, and leaves as much where the machine stops.
+    /// bytes, which aren't checked again. It writes and reads as much, and leaves as much after a crash.
     ///
     /// # Errors
     ///
@@ -62,14 +62,14 @@ impl Batch {
     ) -> Result<u32, ChangeFault>
         requires gathering { IsGathering D.Disk disk.old db.old self.old }
         requires own { header view.now.blob ≡ Ok view.now }
-        ensures causes { AddIs (resumed db.old) view.now.blob result }
-        ensures number { IfOk result (λ n. n ≡ next_number db.old) }
+        ensures causes { AddAnswer (resumed_database db.old) view.now.blob result }
+        ensures number { IfOk result (λ n. n ≡ next_package_number db.old) }
         ensures gathers { Gathers D.Disk disk.old disk.new (Add view.now.blob) db.old db.new self.old self.new result }
         ensures whole { IsTrue D.tells → IsWholeIndex (D.files disk.old).idx → IfErr result WholeCause }
         ensures refused { result ≡ Err ChangeFault.NumbersSpent → (disk.new ≡ disk.old) × (db.new ≡ db.old) × (self.new ≡ self.old) }
-        ensures left { IsLeftSuspended D.Disk disk.old disk.new db.new (with_room (room db.new).spare db.old) self.old.drops result }
+        ensures left { IsLeftSuspended D.Disk disk.old disk.new db.new (with_room (store_of db.new).spare db.old) self.old.drops result }
         ensures index { IsTrue D.tells → (D.files disk.new).idx ≡ (D.files disk.old).idx }
-        ensures end { OnOk result (IsTrue D.tells → ReachesTo (room db.new) (D.files disk.old).pkg (D.files disk.new).pkg) }
+        ensures end { OnOk result (IsTrue D.tells → ReachesTo (store_of db.new) (D.files disk.old).pkg (D.files disk.new).pkg) }
         ensures runs { Runs D.Disk SameLog disk.old disk.new }
         ensures cause { DiskFault D.Disk (result ≡ Err ChangeFault.DiskFault) disk.old disk.new }
     {
@@ -98,16 +98,16 @@ impl Batch {
         blob: &[u8],
     ) -> Result<(), ChangeFault>
         requires gathering { IsGathering D.Disk disk.old db.old self.old }
-        ensures causes { PutIs (resumed db.old) n blob.now result }
+        ensures causes { PutAnswer (resumed_database db.old) n blob.now result }
         ensures gathers { (h : Header) → header blob.now ≡ Ok h → Gathers D.Disk disk.old disk.new (Put n h.blob) db.old db.new self.old self.new result }
         ensures whole { IsTrue D.tells → IsWholeIndex (D.files disk.old).idx → IfErr result WholeCause }
         ensures refused { (result ≡ Err ChangeFault.NoSuch) ⊎ ((fault : HeaderFault) × (result ≡ Err (ChangeFault.BadHeader fault)))
             → (disk.new ≡ disk.old) × (db.new ≡ db.old) × (self.new ≡ self.old) }
-        ensures left { IsLeftSuspended D.Disk disk.old disk.new db.new (with_room (room db.new).spare db.old)
+        ensures left { IsLeftSuspended D.Disk disk.old disk.new db.new (with_room (store_of db.new).spare db.old)
             (self.old.drops ++ rows_at n (finite.get (packages_in D.Disk disk.old db.old) n)) result }
         ensures index { IsTrue D.tells → (D.files disk.new).idx ≡ (D.files disk.old).idx }
-        ensures end { OnOk result (IsTrue D.tells → ReachesTo (room db.new) (D.files disk.old).pkg (D.files disk.new).pkg) }
-        ensures reads { D.bytes_read disk.new Pkg ≤ D.bytes_read disk.old Pkg + cost n db.old }
+        ensures end { OnOk result (IsTrue D.tells → ReachesTo (store_of db.new) (D.files disk.old).pkg (D.files disk.new).pkg) }
+        ensures reads { D.bytes_read disk.new Pkg ≤ D.bytes_read disk.old Pkg + package_cost n db.old }
         ensures runs { Runs D.Disk SameLog disk.old disk.new }
         ensures cause { DiskFault D.Disk (result ≡ Err ChangeFault.DiskFault) disk.old disk.new }
     {
@@ -117,7 +117,7 @@ impl Batch {
 
     /// Puts a header that was parsed in place of the package that a number has, Good or Bad: what [`Batch::replace`] does
     /// of the header's own bytes, which aren't checked again. It writes and reads as much, and leaves as much where the
-    /// machine stops.
+    /// machine crashes.
     ///
     /// # Errors
     ///
@@ -133,15 +133,15 @@ impl Batch {
     ) -> Result<(), ChangeFault>
         requires gathering { IsGathering D.Disk disk.old db.old self.old }
         requires own { header view.now.blob ≡ Ok view.now }
-        ensures causes { PutIs (resumed db.old) n view.now.blob result }
+        ensures causes { PutAnswer (resumed_database db.old) n view.now.blob result }
         ensures gathers { Gathers D.Disk disk.old disk.new (Put n view.now.blob) db.old db.new self.old self.new result }
         ensures whole { IsTrue D.tells → IsWholeIndex (D.files disk.old).idx → IfErr result WholeCause }
         ensures refused { result ≡ Err ChangeFault.NoSuch → (disk.new ≡ disk.old) × (db.new ≡ db.old) × (self.new ≡ self.old) }
-        ensures left { IsLeftSuspended D.Disk disk.old disk.new db.new (with_room (room db.new).spare db.old)
+        ensures left { IsLeftSuspended D.Disk disk.old disk.new db.new (with_room (store_of db.new).spare db.old)
             (self.old.drops ++ rows_at n (finite.get (packages_in D.Disk disk.old db.old) n)) result }
         ensures index { IsTrue D.tells → (D.files disk.new).idx ≡ (D.files disk.old).idx }
-        ensures end { OnOk result (IsTrue D.tells → ReachesTo (room db.new) (D.files disk.old).pkg (D.files disk.new).pkg) }
-        ensures reads { D.bytes_read disk.new Pkg ≤ D.bytes_read disk.old Pkg + cost n db.old }
+        ensures end { OnOk result (IsTrue D.tells → ReachesTo (store_of db.new) (D.files disk.old).pkg (D.files disk.new).pkg) }
+        ensures reads { D.bytes_read disk.new Pkg ≤ D.bytes_read disk.old Pkg + package_cost n db.old }
         ensures runs { Runs D.Disk SameLog disk.old disk.new }
         ensures cause { DiskFault D.Disk (result ≡ Err ChangeFault.DiskFault) disk.old disk.new }
     {
@@ -165,17 +165,17 @@ impl Batch {
         view: &View<'_>,
     ) -> Result<u32, ChangeFault>
         requires gathering { IsGathering D.Disk disk.old db.old self.old }
-        requires takes { CanTake n (room db.old) }
+        requires takes { CanTake n (store_of db.old) }
         requires own { header view.now.blob ≡ Ok view.now }
-        ensures later { LaterIs (generation_of db.old) (IsFull (room db.old) (is_none n) (length view.now.blob)) result }
-        ensures number { IfOk result (λ m. m ≡ number_for n (room db.old)) }
+        ensures later { LaterIs (generation_of db.old) (IsStoreFull (store_of db.old) (is_none n) (length view.now.blob)) result }
+        ensures number { IfOk result (λ m. m ≡ number_for n (store_of db.old)) }
         ensures gathers { Gathers D.Disk disk.old disk.new (change_for n view.now.blob) db.old db.new self.old self.new result }
         ensures whole { IsTrue D.tells → IsWholeIndex (D.files disk.old).idx → IfErr result WholeCause }
-        ensures left { IsLeftSuspended D.Disk disk.old disk.new db.new (with_room (room db.new).spare db.old)
+        ensures left { IsLeftSuspended D.Disk disk.old disk.new db.new (with_room (store_of db.new).spare db.old)
             (self.old.drops ++ old_rows n (packages_in D.Disk disk.old db.old)) result }
         ensures index { IsTrue D.tells → (D.files disk.new).idx ≡ (D.files disk.old).idx }
-        ensures end { OnOk result (IsTrue D.tells → ReachesTo (room db.new) (D.files disk.old).pkg (D.files disk.new).pkg) }
-        ensures reads { ReadsAtMost n (room db.old) (D.bytes_read disk.old Pkg) (D.bytes_read disk.new Pkg) }
+        ensures end { OnOk result (IsTrue D.tells → ReachesTo (store_of db.new) (D.files disk.old).pkg (D.files disk.new).pkg) }
+        ensures reads { ReadsAtMost n (store_of db.old) (D.bytes_read disk.old Pkg) (D.bytes_read disk.new Pkg) }
         ensures runs { Runs D.Disk SameLog disk.old disk.new }
         ensures cause { DiskFault D.Disk (result ≡ Err ChangeFault.DiskFault) disk.old disk.new }
     {

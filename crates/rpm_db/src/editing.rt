@@ -2,7 +2,7 @@
 
 ghost use Rattle.std.specs.Prelude.{◌≡◌, ◌+◌, ◌≤◌, [], length, IsTrue, true, false, None, Some, Ok, Err, OnOk, IfOk};
 ghost use Rattle.std.specs.FinMap as finite;
-ghost use Rattle.rpm_db.specs.Prelude.{Add, AddIs, BadIndexIs, cost, DiskFault, Erase, EraseIs, Header, header, holds, images, is_indexed, IsLeft, IsServing, Makes, next_number, packages_in, Pkg, Put, PutIs, ReachesTo, ReadsAtMost, room, rows_at, Runs, SameLog, with_room};
+ghost use Rattle.rpm_db.specs.Prelude.{Add, AddAnswer, BadIndexIs, package_cost, DiskFault, Erase, EraseAnswer, Header, header, holds, images, is_indexed, IsLeft, IsServing, Makes, next_package_number, packages_in, Pkg, Put, PutAnswer, ReachesTo, ReadsAtMost, store_of, rows_at, Runs, SameLog, with_room};
 
 use crate::change_fault::ChangeFault;
 use crate::database::Db;
@@ -46,13 +46,13 @@ impl Db {
     ) -> Result<u32, ChangeFault>
         requires indexed { is_indexed self.old ≡ true }
         requires serving { self.old.stopped ≡ false → IsTrue D.tells → IsServing (D.files disk.old) (images D.Disk disk.old) self.old }
-        ensures causes { AddIs self.old blob.now result }
-        ensures number { IfOk result (λ n. n ≡ next_number self.old) }
+        ensures causes { AddAnswer self.old blob.now result }
+        ensures number { IfOk result (λ n. n ≡ next_package_number self.old) }
         ensures makes { (h : Header) → header blob.now ≡ Ok h → Makes D.Disk disk.old disk.new (Add h.blob) self.old self.new result }
-        ensures left { IsLeft D.Disk disk.old disk.new self.old self.new (with_room (room self.new).spare self.old) result }
-        ensures end { OnOk result (IsTrue D.tells → ReachesTo (room self.new) (D.files disk.old).pkg (D.files disk.new).pkg) }
+        ensures left { IsLeft D.Disk disk.old disk.new self.old self.new (with_room (store_of self.new).spare self.old) result }
+        ensures end { OnOk result (IsTrue D.tells → ReachesTo (store_of self.new) (D.files disk.old).pkg (D.files disk.new).pkg) }
         ensures bad { IsTrue D.tells → BadIndexIs [] (D.files disk.old).idx result }
-        ensures reads { ReadsAtMost None (room self.old) (D.bytes_read disk.old Pkg) (D.bytes_read disk.new Pkg) }
+        ensures reads { ReadsAtMost None (store_of self.old) (D.bytes_read disk.old Pkg) (D.bytes_read disk.new Pkg) }
         ensures runs { Runs D.Disk SameLog disk.old disk.new }
         ensures cause { DiskFault D.Disk (result ≡ Err ChangeFault.DiskFault) disk.old disk.new }
     {
@@ -98,13 +98,13 @@ impl Db {
     ) -> Result<(), ChangeFault>
         requires indexed { is_indexed self.old ≡ true }
         requires serving { self.old.stopped ≡ false → IsTrue D.tells → IsServing (D.files disk.old) (images D.Disk disk.old) self.old }
-        ensures causes { PutIs self.old n blob.now result }
+        ensures causes { PutAnswer self.old n blob.now result }
         ensures makes { (h : Header) → header blob.now ≡ Ok h → Makes D.Disk disk.old disk.new (Put n h.blob) self.old self.new result }
-        ensures left { IsLeft D.Disk disk.old disk.new self.old self.new (with_room (room self.new).spare self.old) result }
-        ensures end { OnOk result (IsTrue D.tells → ReachesTo (room self.new) (D.files disk.old).pkg (D.files disk.new).pkg) }
+        ensures left { IsLeft D.Disk disk.old disk.new self.old self.new (with_room (store_of self.new).spare self.old) result }
+        ensures end { OnOk result (IsTrue D.tells → ReachesTo (store_of self.new) (D.files disk.old).pkg (D.files disk.new).pkg) }
         ensures bad { IsTrue D.tells → BadIndexIs (rows_at n (finite.get (packages_in D.Disk disk.old self.old) n))
             (D.files disk.old).idx result }
-        ensures reads { D.bytes_read disk.new Pkg ≤ D.bytes_read disk.old Pkg + cost n self.old }
+        ensures reads { D.bytes_read disk.new Pkg ≤ D.bytes_read disk.old Pkg + package_cost n self.old }
         ensures runs { Runs D.Disk SameLog disk.old disk.new }
         ensures cause { DiskFault D.Disk (result ≡ Err ChangeFault.DiskFault) disk.old disk.new }
     {
@@ -141,13 +141,13 @@ impl Db {
     pub fn erase<D: Disk>(&mut self, alloc: Global, disk: &mut D, n: u32) -> Result<(), ChangeFault>
         requires indexed { is_indexed self.old ≡ true }
         requires serving { self.old.stopped ≡ false → IsTrue D.tells → IsServing (D.files disk.old) (images D.Disk disk.old) self.old }
-        ensures causes { EraseIs self.old n result }
+        ensures causes { EraseAnswer self.old n result }
         ensures makes { Makes D.Disk disk.old disk.new (Erase n) self.old self.new result }
         ensures left { IsLeft D.Disk disk.old disk.new self.old self.new self.old result }
         ensures end { OnOk result (IsTrue D.tells → length (D.files disk.new).pkg ≤ length (D.files disk.old).pkg) }
         ensures bad { IsTrue D.tells → BadIndexIs (rows_at n (finite.get (packages_in D.Disk disk.old self.old) n))
             (D.files disk.old).idx result }
-        ensures reads { D.bytes_read disk.new Pkg ≤ D.bytes_read disk.old Pkg + cost n self.old }
+        ensures reads { D.bytes_read disk.new Pkg ≤ D.bytes_read disk.old Pkg + package_cost n self.old }
         ensures runs { Runs D.Disk SameLog disk.old disk.new }
         ensures cause { DiskFault D.Disk (result ≡ Err ChangeFault.DiskFault) disk.old disk.new }
     {

@@ -1,8 +1,8 @@
 //! The packages that have a key.
 
 ghost use Rattle.std.specs.Prelude.{◌≡◌, ℕ, ◌+◌, IsTrue, true, false, Err, IfOk, IfErr};
-ghost use Rattle.rpm_db.specs.Prelude.{AreHits, ChainCosts, code_of, DiskFault, FoundIs, HasRows, Idx, is_indexed, KeepsIndex, key_chain, LooksAt, packages, room, rows, unit_at, units_at};
-ghost use Rattle.rpm_hindex.specs.Answers.{IsOutside};
+ghost use Rattle.rpm_db.specs.Prelude.{AreHits, ChainCosts, code_of, DiskFault, FindAnswer, HasRows, Idx, is_indexed, KeepsIndex, key_chain, OnlyReadsFile, packages, store_of, rows, unit_at, units_at};
+ghost use Rattle.rpm_hindex.specs.Answers.{IsOutsideIndex};
 
 use crate::database::Db;
 use rpm_hindex::{FindFault, Hits};
@@ -33,14 +33,14 @@ impl Db {
         requires keeps { IsTrue D.tells → KeepsIndex (D.files disk.old).idx self.now }
         ensures kept { IsTrue D.tells → KeepsIndex (D.files disk.new).idx self.now }
         ensures rows { IfOk result (λ hits. IsTrue D.tells
-            → HasRows (packages (D.files disk.old).pkg (room self.now)) (D.files disk.old).idx
-            → AreHits (code_of kind) key.now (rows (packages (D.files disk.old).pkg (room self.now))) hits) }
-        ensures told { IsTrue D.tells → FoundIs (key_chain (code_of kind) key.now (D.files disk.old).idx) result }
-        ensures lawful { IsTrue D.tells → HasRows (packages (D.files disk.old).pkg (room self.now)) (D.files disk.old).idx → IfErr result IsOutside }
+            → HasRows (packages (D.files disk.old).pkg (store_of self.now)) (D.files disk.old).idx
+            → AreHits (code_of kind) key.now (rows (packages (D.files disk.old).pkg (store_of self.now))) hits) }
+        ensures told { IsTrue D.tells → FindAnswer (key_chain (code_of kind) key.now (D.files disk.old).idx) result }
+        ensures lawful { IsTrue D.tells → HasRows (packages (D.files disk.old).pkg (store_of self.now)) (D.files disk.old).idx → IfErr result IsOutsideIndex }
         ensures cost { IsTrue D.tells → ChainCosts (key_chain (code_of kind) key.now (D.files disk.old).idx)
             (units_at (unit_at (D.files disk.old).idx)) (D.bytes_read disk.old File.Idx + 16)
             (D.bytes_read disk.new File.Idx) }
-        ensures looks { LooksAt D.Disk Idx disk.old disk.new }
+        ensures looks { OnlyReadsFile D.Disk Idx disk.old disk.new }
         ensures cause { DiskFault D.Disk (result ≡ Err FindFault.DiskFault) disk.old disk.new }
     {
         match &self.index {

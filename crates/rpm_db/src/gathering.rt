@@ -2,8 +2,8 @@
 
 ghost use Rattle.std.specs.Prelude.{◌≡◌, ◌+◌, ◌++◌, ◌≤◌, ◌<◌, length, IsTrue, IsSome, true, Some, Err, OnOk, IfOk, IfErr};
 ghost use Rattle.std.specs.FinMap as finite;
-ghost use Rattle.rpm_db.specs.Prelude.{AreLawful, AreOfRows, BadIndexIs, Balances, blobs, CanApply, CanFill, CanPutAside, CanTake, cost_before, DiskFault, field_for, FindsRoom, found_rows, FullCause, FullIndexIs, HasEdit, HasRows, header_rows, Idx, images, IsChangedStill, IsFilled, IsLawfulStill, IsOfIndex, IsOfReading, IsPutAside, IsRefusal, IsWholeIndex, KeepsSums, LeadsTo, LeavesIn, LooksAt, nat_cmp, number_for, old_rows, Package, packages, Pkg, put_map, raised, reach_with, ReachesTo, ReadsAtMost, rows, Runs, RunsOr, SameFiles, SameLog, slot_with, state, state_of, StaysWhole, TakesRows, units_after, units_for, with_rows, with_spare, WritesWhole};
-ghost use Rattle.rpm_db.specs.Prelude.{Keeps};
+ghost use Rattle.rpm_db.specs.Prelude.{AreLawful, AreOfRows, BadIndexIs, Balances, blobs, CanApply, CanFill, CanPutAside, CanTake, cost_before, DiskFault, field_for, FindsRoom, found_rows, FullCause, FullIndexIs, HasEdit, HasRows, header_rows, Idx, images, IsChangedStill, IsFilled, IsLawfulStill, IsOfIndex, IsOfReading, IsPutAside, IsRefusal, IsWholeIndex, KeepsSums, LeadsTo, CrashLeaves, OnlyReadsFile, nat_cmp, number_for, old_rows, Package, packages, Pkg, put_map, raised_store, reach_with, ReachesTo, ReadsAtMost, rows, Runs, RunsOr, SameFiles, SameLog, slot_with, state, state_of, StaysWhole, TakesRows, units_after, units_for, with_rows, with_spare, WritesWhole};
+ghost use Rattle.rpm_db.specs.Prelude.{KeepsStore};
 ghost use Rattle.rpm_hindex.specs.State as hindex;
 
 use crate::change_fault::ChangeFault;
@@ -26,7 +26,7 @@ fn prepare_owed<D: Disk>(
     owed: RowChange,
 ) -> Result<IndexPlan, ChangeFault>
     requires order { hindex.is_in_order index.now ≡ true }
-    requires keeps { IsTrue D.tells → hindex.Keeps (D.files disk.old).idx index.now }
+    requires keeps { IsTrue D.tells → hindex.KeepsIndexValue (D.files disk.old).idx index.now }
     ensures change { IfOk result (λ plan. CanApply index.now.units plan.work) }
     ensures leads { IfOk result (λ plan. (before after : finite.FinMap nat_cmp Package)
         → Balances owed (rows before) (rows after)
@@ -39,7 +39,7 @@ fn prepare_owed<D: Disk>(
     ensures whole { IfOk result (λ plan. IsTrue D.tells → IsWholeIndex (D.files disk.old).idx → WritesWhole plan.work (D.files disk.old).idx) }
     ensures bad { IsTrue D.tells → BadIndexIs owed.drops (D.files disk.old).idx result }
     ensures kinds { IfErr result IsOfIndex }
-    ensures looks { LooksAt D.Disk Idx disk.old disk.new }
+    ensures looks { OnlyReadsFile D.Disk Idx disk.old disk.new }
     ensures cause { DiskFault D.Disk (result ≡ Err ChangeFault.DiskFault) disk.old disk.new }
 {
     let Ok(net) = netted(alloc, owed) else {
@@ -69,10 +69,10 @@ fn expect_room<D: Disk>(
     owed: &RowChange,
 ) -> Result<(), ChangeFault>
     requires order { hindex.is_in_order index.now ≡ true }
-    requires keeps { IsTrue D.tells → hindex.Keeps (D.files disk.old).idx index.now }
+    requires keeps { IsTrue D.tells → hindex.KeepsIndexValue (D.files disk.old).idx index.now }
     ensures takes { TakesRows D.Disk disk.old owed.now result }
     ensures kinds { IfErr result IsOfIndex }
-    ensures looks { LooksAt D.Disk Idx disk.old disk.new }
+    ensures looks { OnlyReadsFile D.Disk Idx disk.old disk.new }
     ensures cause { DiskFault D.Disk (result ≡ Err ChangeFault.DiskFault) disk.old disk.new }
 {
     if index.has_room_for(&owed.adds) {
@@ -98,9 +98,9 @@ fn gather_rows<D: Disk>(
     n: Option<u32>,
     view: &View<'_>,
 ) -> Result<(), ChangeFault>
-    requires store { IsTrue D.tells → Keeps (D.files disk.old).pkg store.now }
+    requires store { IsTrue D.tells → KeepsStore (D.files disk.old).pkg store.now }
     requires order { hindex.is_in_order index.now ≡ true }
-    requires keeps { IsTrue D.tells → hindex.Keeps (D.files disk.old).idx index.now }
+    requires keeps { IsTrue D.tells → hindex.KeepsIndexValue (D.files disk.old).idx index.now }
     ensures gathered { OnOk result (IsTrue D.tells → owed.new ≡ with_rows owed.old
         (old_rows n (packages (D.files disk.old).pkg store.now)) (header_rows (number_for n store.now) view.now)) }
     ensures takes { IsTrue D.tells → TakesRows D.Disk disk.old (with_rows owed.old
@@ -135,7 +135,7 @@ pub fn store_header<D: Disk>(
     requires ready { CanPutAside D.Disk disk.old store.old }
     requires takes { CanTake n store.old }
     requires order { hindex.is_in_order index.now ≡ true }
-    requires units { IsTrue D.tells → hindex.Keeps (D.files disk.old).idx index.now }
+    requires units { IsTrue D.tells → hindex.KeepsIndexValue (D.files disk.old).idx index.now }
     ensures room { FindsRoom n (length view.now.blob) store.old store.new result }
     ensures number { IfOk result (λ m. m ≡ number_for n store.old) }
     ensures made { 1 ≤ store.new.pages }
@@ -150,8 +150,8 @@ pub fn store_header<D: Disk>(
     ensures index { IsTrue D.tells → (D.files disk.new).idx ≡ (D.files disk.old).idx }
     ensures refused { IfErr result (λ e. IsRefusal e → (store.new ≡ with_spare store.new.spare store.old)
         × Runs D.Disk SameFiles disk.old disk.new × (D.moment disk.new ≡ D.moment disk.old)) }
-    ensures stops { IsTrue D.tells → AreLawful (images D.Disk disk.old)
-        → LeavesIn D.Disk disk.old disk.new (IsChangedStill (state (D.files disk.old).pkg store.old)
+    ensures crashes { IsTrue D.tells → AreLawful (images D.Disk disk.old)
+        → CrashLeaves D.Disk disk.old disk.new (IsChangedStill (state (D.files disk.old).pkg store.old)
         (state_of (put_map (D.files disk.old).pkg store.old n view.now.blob) (field_for n store.old))
         (images D.Disk disk.old)) }
     ensures reads { ReadsAtMost n store.old (D.bytes_read disk.old Pkg) (D.bytes_read disk.new Pkg) }
@@ -183,7 +183,7 @@ pub fn erase_aside<D: Disk>(
     requires ready { CanPutAside D.Disk disk.old store.old }
     requires held { IsSome (slot_with n store.old.slots) }
     requires left { store.old.generation < 4294967295 }
-    ensures edit { OnOk result (HasEdit (Edit.Erase n) (raised store.old) store.new) }
+    ensures edit { OnOk result (HasEdit (Edit.Erase n) (raised_store store.old) store.new) }
     ensures made { 1 ≤ store.new.pages }
     ensures done { OnOk result (IsPutAside D.Disk disk.new store.old store.new
         (finite.remove (blobs (D.files disk.old).pkg store.old) n) store.old.field) }
@@ -194,8 +194,8 @@ pub fn erase_aside<D: Disk>(
     ensures index { IsTrue D.tells → (D.files disk.new).idx ≡ (D.files disk.old).idx }
     ensures refused { IfErr result (λ e. IsRefusal e → (store.new ≡ store.old)
         × Runs D.Disk SameFiles disk.old disk.new × (D.moment disk.new ≡ D.moment disk.old)) }
-    ensures stops { IsTrue D.tells → AreLawful (images D.Disk disk.old)
-        → LeavesIn D.Disk disk.old disk.new (IsChangedStill (state (D.files disk.old).pkg store.old)
+    ensures crashes { IsTrue D.tells → AreLawful (images D.Disk disk.old)
+        → CrashLeaves D.Disk disk.old disk.new (IsChangedStill (state (D.files disk.old).pkg store.old)
         (state_of (finite.remove (blobs (D.files disk.old).pkg store.old) n) store.old.field)
         (images D.Disk disk.old)) }
     ensures reads { D.bytes_read disk.new Pkg ≤ D.bytes_read disk.old Pkg + cost_before (Some n) store.old }
@@ -231,10 +231,10 @@ pub fn fill_index<D: Disk>(
     ensures refused { IfErr result (λ e. IsRefusal e → (index.new ≡ index.old)
         × Runs D.Disk SameFiles disk.old disk.new × (D.moment disk.new ≡ D.moment disk.old)) }
     ensures bad { IsTrue D.tells → BadIndexIs owed.drops (D.files disk.old).idx result }
-    ensures stops { IsTrue D.tells → AreLawful (images D.Disk disk.old) → (before after : finite.FinMap nat_cmp Package)
+    ensures crashes { IsTrue D.tells → AreLawful (images D.Disk disk.old) → (before after : finite.FinMap nat_cmp Package)
         → HasRows before (D.files disk.old).idx → Balances owed (rows before) (rows after)
         → AreOfRows generation after (images D.Disk disk.old)
-        → LeavesIn D.Disk disk.old disk.new (IsLawfulStill (images D.Disk disk.old)) }
+        → CrashLeaves D.Disk disk.old disk.new (IsLawfulStill (images D.Disk disk.old)) }
     ensures runs { Runs D.Disk SameLog disk.old disk.new }
     ensures cause { DiskFault D.Disk (result ≡ Err ChangeFault.DiskFault) disk.old disk.new }
 {

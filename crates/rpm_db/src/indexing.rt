@@ -1,7 +1,7 @@
 //! Making the index from the packages.
 
 ghost use Rattle.std.specs.Prelude.{◌≡◌, ◌≢◌, ℕ, ◌+◌, ◌≤◌, ◌<◌, max, IsTrue, true, not, Err, OnOk, IfOk, IfErr, if◌then◌else◌};
-ghost use Rattle.rpm_db.specs.Prelude.{CanIndex, cost_all, Damage, DiskCause, DiskFault, Files, FullIs, FullOpenIs, Idx, images, is_current_at, IsIndexFor, IsOfRows, IsRefused, IsSealedHere, IsSettled, IsUnsealed, Keeps, packages, Pkg, ReachesMade, ReadAtMost, Remade, rows, Runs, units_for, WritesNothing};
+ghost use Rattle.rpm_db.specs.Prelude.{CanIndex, cost_all, Damage, DiskCause, DiskFault, Files, FullIs, FullOpenIs, Idx, images, is_current_at, IsIndexFor, IsOfRows, IsRebuildRefused, IsSealedHere, IsDurable, IsUnsealed, KeepsStore, packages, Pkg, ReachesMade, ReadAtMost, Remade, rows, Runs, units_for, WritesNothing};
 ghost use Rattle.rpm_hindex.specs.State as hindex;
 
 use crate::open_fault::DbOpenFault;
@@ -12,10 +12,10 @@ use rpm_pkgdb::PkgDb;
 use std::alloc::Global;
 
 /// Settles both files.
-pub fn settle<D: Disk>(disk: &mut D) -> Result<(), Failed>
+pub fn sync_both<D: Disk>(disk: &mut D) -> Result<(), Failed>
     ensures same { IsTrue D.tells → D.files disk.new ≡ D.files disk.old }
-    ensures pkg { OnOk result (IsTrue D.tells → IsSettled D.Disk Pkg disk.new) }
-    ensures idx { OnOk result (IsTrue D.tells → IsSettled D.Disk Idx disk.new) }
+    ensures pkg { OnOk result (IsTrue D.tells → IsDurable D.Disk Pkg disk.new) }
+    ensures idx { OnOk result (IsTrue D.tells → IsDurable D.Disk Idx disk.new) }
     ensures unread { (f : File) → D.bytes_read disk.new f ≡ D.bytes_read disk.old f }
     ensures runs { Runs D.Disk Remade disk.old disk.new }
     ensures cause { DiskCause D.Disk result disk.old disk.new }
@@ -24,7 +24,7 @@ pub fn settle<D: Disk>(disk: &mut D) -> Result<(), Failed>
     disk.sync(File::Idx)
 }
 
-/// Seals an index that is written, once it is durable, and settles it.
+/// Seals an index that is written, once it is durable, and makes the seal durable.
 pub fn seal_index<D: Disk>(
     disk: &mut D,
     index: &mut Hindex,
@@ -32,8 +32,8 @@ pub fn seal_index<D: Disk>(
 ) -> Result<(), IndexDiskFault>
     requires written { 0 < index.old.pending }
     requires ordered { hindex.is_ordered index.old.pending index.old.second index.old.units ≡ true }
-    requires keeps { IsTrue D.tells → hindex.Keeps (D.files disk.old).idx index.old }
-    requires settled { IsTrue D.tells → IsSettled D.Disk Idx disk.old }
+    requires keeps { IsTrue D.tells → hindex.KeepsIndexValue (D.files disk.old).idx index.old }
+    requires durable { IsTrue D.tells → IsDurable D.Disk Idx disk.old }
     requires here { IsTrue D.tells → IsUnsealed generation index.old.pending (D.files disk.old).pkg (D.files disk.old).idx }
     requires each { IsTrue D.tells → (image : Files) → images D.Disk disk.old image
         → IsUnsealed generation index.old.pending image.pkg (D.files disk.old).idx }
@@ -54,12 +54,12 @@ fn write_index<D: Disk>(
     rows: &Rows,
     generation: u32,
 ) -> Result<(), RewriteFault>
-    requires keeps { IsTrue D.tells → hindex.Keeps (D.files disk.old).idx index.old }
-    requires settled { IsTrue D.tells → IsSettled D.Disk Pkg disk.old }
+    requires keeps { IsTrue D.tells → hindex.KeepsIndexValue (D.files disk.old).idx index.old }
+    requires durable { IsTrue D.tells → IsDurable D.Disk Pkg disk.old }
     requires rows { IsTrue D.tells → IsOfRows generation rows.now (D.files disk.old).pkg }
     ensures full { FullIs (units_for rows.now) result }
     ensures sealed { OnOk result (IsSealedHere D.Disk disk.new generation index.new) }
-    ensures refused { IfErr result (λ e. IsRefused e → (index.new ≡ index.old) × (disk.new ≡ disk.old)) }
+    ensures refused { IfErr result (λ e. IsRebuildRefused e → (index.new ≡ index.old) × (disk.new ≡ disk.old)) }
     ensures grows { OnOk result (index.new.units ≤ max index.old.units (units_for rows.now)) }
     ensures unread { (f : File) → D.bytes_read disk.new f ≤ D.bytes_read disk.old f }
     ensures runs { Runs D.Disk Remade disk.old disk.new }
@@ -81,12 +81,12 @@ pub fn make_index<D: Disk>(
     store: &PkgDb,
     index: &mut Hindex,
 ) -> Result<(), RewriteFault>
-    requires keeps { IsTrue D.tells → Keeps (D.files disk.old).pkg store.now }
-    requires index { IsTrue D.tells → hindex.Keeps (D.files disk.old).idx index.old }
-    requires settled { IsTrue D.tells → IsSettled D.Disk Pkg disk.old }
+    requires keeps { IsTrue D.tells → KeepsStore (D.files disk.old).pkg store.now }
+    requires index { IsTrue D.tells → hindex.KeepsIndexValue (D.files disk.old).idx index.old }
+    requires durable { IsTrue D.tells → IsDurable D.Disk Pkg disk.old }
     ensures full { IsTrue D.tells → FullIs (units_for (rows (packages (D.files disk.old).pkg store.now))) result }
     ensures sealed { OnOk result (IsSealedHere D.Disk disk.new store.now.generation index.new) }
-    ensures refused { IfErr result (λ e. IsRefused e → (index.new ≡ index.old)
+    ensures refused { IfErr result (λ e. IsRebuildRefused e → (index.new ≡ index.old)
         × (IsTrue D.tells → D.files disk.new ≡ D.files disk.old) × (D.moment disk.new ≡ D.moment disk.old)) }
     ensures reach { OnOk result (IsTrue D.tells
         → ReachesMade (units_for (rows (packages (D.files disk.old).pkg store.now))) (D.files disk.old).idx

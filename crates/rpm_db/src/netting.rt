@@ -1,7 +1,7 @@
 //! Rows that go and come while a database changes: those that do both stay as they are.
 
 ghost use Rattle.std.specs.Prelude.{◌≡◌, ◌<◌, ◌++◌, ◌∷◌, [], true, length, drop, map, OnOk, IfOk};
-ghost use Rattle.rpm_db.specs.Prelude.{AreInOrder, AreNetted, is_before, row_nth, row_of, same_row, SameRows};
+ghost use Rattle.rpm_db.specs.Prelude.{AreInOrder, AreNetted, is_row_before, row_nth, row_of, same_row, SameRows};
 
 use rpm_hindex::Rows;
 use std::alloc::{AllocError, Global};
@@ -40,7 +40,7 @@ fn stands_at(rows: &Rows, i: usize) -> Standing<'_>
 fn comes_first(rows: &Rows, i: usize, others: &Rows, j: usize) -> bool
     requires i { i < length rows.now }
     requires j { j < length others.now }
-    ensures { result ≡ is_before (row_nth rows.now i) (row_nth others.now j) }
+    ensures { result ≡ is_row_before (row_nth rows.now i) (row_nth others.now j) }
 {
     stands_at(rows, i).cmp(&stands_at(others, j)).is_lt()
 }

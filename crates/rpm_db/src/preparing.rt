@@ -2,7 +2,7 @@
 
 ghost use Rattle.std.specs.Prelude.{◌≡◌, ℕ, ◌+◌, ◌++◌, ◌≤◌, [], max, IsTrue, true, Option, None, Err, OnOk, IfOk, IfErr};
 ghost use Rattle.std.specs.FinMap as finite;
-ghost use Rattle.rpm_db.specs.Prelude.{AreRead, BadIndexIs, CanApply, cost_before, DiskFault, found_rows, FullIndexIs, HasChanged, HasRows, header_rows, Idx, IsOfIndex, IsOfReading, IsOutside, IsWholeIndex, Keeps, LeadsTo, Looks, LooksAt, nat_cmp, old_rows, Package, packages, Pkg, reach_with, rows, Runs, SameFiles, units_after, units_for, WritesWhole};
+ghost use Rattle.rpm_db.specs.Prelude.{AreBothRead, BadIndexIs, CanApply, cost_before, DiskFault, found_rows, FullIndexIs, HasChanged, HasRows, header_rows, Idx, IsOfIndex, IsOfReading, IsOutsideRebuild, IsWholeIndex, KeepsStore, LeadsTo, OnlyReads, OnlyReadsFile, nat_cmp, old_rows, Package, packages, Pkg, reach_with, rows, Runs, SameFiles, units_after, units_for, WritesWhole};
 ghost use Rattle.rpm_hindex.specs.State as hindex;
 
 use crate::change_fault::ChangeFault;
@@ -22,10 +22,10 @@ pub fn push_before<D: Disk>(
     rows: &mut Rows,
     n: Option<u32>,
 ) -> Result<(), ChangeFault>
-    requires keeps { IsTrue D.tells → Keeps (D.files disk.old).pkg store.now }
+    requires keeps { IsTrue D.tells → KeepsStore (D.files disk.old).pkg store.now }
     ensures rows { OnOk result (IsTrue D.tells → rows.new ≡ rows.old ++ old_rows n (packages (D.files disk.old).pkg store.now)) }
     ensures kinds { IfErr result IsOfReading }
-    ensures looks { Looks D.Disk Pkg (cost_before n store.now) disk.old disk.new }
+    ensures looks { OnlyReads D.Disk Pkg (cost_before n store.now) disk.old disk.new }
     ensures cause { DiskFault D.Disk (result ≡ Err ChangeFault.DiskFault) disk.old disk.new }
 {
     match n {
@@ -46,10 +46,10 @@ fn rows_before<D: Disk>(
     store: &PkgDb,
     n: Option<u32>,
 ) -> Result<Rows, ChangeFault>
-    requires keeps { IsTrue D.tells → Keeps (D.files disk.old).pkg store.now }
+    requires keeps { IsTrue D.tells → KeepsStore (D.files disk.old).pkg store.now }
     ensures rows { IfOk result (λ rows. IsTrue D.tells → rows ≡ old_rows n (packages (D.files disk.old).pkg store.now)) }
     ensures kinds { IfErr result IsOfReading }
-    ensures looks { Looks D.Disk Pkg (cost_before n store.now) disk.old disk.new }
+    ensures looks { OnlyReads D.Disk Pkg (cost_before n store.now) disk.old disk.new }
     ensures cause { DiskFault D.Disk (result ≡ Err ChangeFault.DiskFault) disk.old disk.new }
 {
     let mut rows = Rows::new(alloc);
@@ -82,7 +82,7 @@ pub fn prepare_rows<D: Disk>(
     adds: &Rows,
 ) -> Result<IndexPlan, ChangeFault>
     requires order { hindex.is_in_order index.now ≡ true }
-    requires keeps { IsTrue D.tells → hindex.Keeps (D.files disk.old).idx index.now }
+    requires keeps { IsTrue D.tells → hindex.KeepsIndexValue (D.files disk.old).idx index.now }
     ensures change { IfOk result (λ plan. CanApply index.now.units plan.work) }
     ensures leads { IfOk result (λ plan. (before after : finite.FinMap nat_cmp Package)
         → HasChanged drops.now adds.now (rows before) (rows after)
@@ -95,7 +95,7 @@ pub fn prepare_rows<D: Disk>(
     ensures whole { IfOk result (λ plan. IsTrue D.tells → IsWholeIndex (D.files disk.old).idx → WritesWhole plan.work (D.files disk.old).idx) }
     ensures bad { IsTrue D.tells → BadIndexIs drops.now (D.files disk.old).idx result }
     ensures kinds { IfErr result IsOfIndex }
-    ensures looks { LooksAt D.Disk Idx disk.old disk.new }
+    ensures looks { OnlyReadsFile D.Disk Idx disk.old disk.new }
     ensures cause { DiskFault D.Disk (result ≡ Err ChangeFault.DiskFault) disk.old disk.new }
 {
     match index.prepare(alloc, disk, drops, adds) {
@@ -117,7 +117,7 @@ pub fn prepare_change<D: Disk>(
     n: Option<u32>,
     adds: Rows,
 ) -> Result<IndexPlan, ChangeFault>
-    requires read { AreRead D.Disk disk.old store.now index.now }
+    requires read { AreBothRead D.Disk disk.old store.now index.now }
     ensures change { IfOk result (λ plan. CanApply index.now.units plan.work) }
     ensures leads { IfOk result (λ plan. (after : finite.FinMap nat_cmp Package)
         → HasChanged (old_rows n (packages (D.files disk.old).pkg store.now)) adds

@@ -2,7 +2,7 @@
 
 ghost use Rattle.std.specs.Prelude.{◌≡◌, ◌+◌, ◌≤◌, [], length, IsTrue, true, false, is_none, None, Some, Ok, Err, OnOk, IfOk};
 ghost use Rattle.std.specs.FinMap as finite;
-ghost use Rattle.rpm_db.specs.Prelude.{Add, AddIs, BadIndexIs, CanTake, change_for, cost, DiskFault, generation_of, header, images, is_indexed, is_stopping, IsFull, IsLeft, IsReady, IsServing, LaterIs, Makes, next_number, number_for, old_rows, packages_in, Pkg, Put, PutIs, ReachesTo, ReadsAtMost, room, rows_at, Runs, SameLog, with_room};
+ghost use Rattle.rpm_db.specs.Prelude.{Add, AddAnswer, BadIndexIs, CanTake, change_for, package_cost, DiskFault, generation_of, header, images, is_indexed, is_stopping, IsStoreFull, IsLeft, IsReady, IsServing, LaterIs, Makes, next_package_number, number_for, old_rows, packages_in, Pkg, Put, PutAnswer, ReachesTo, ReadsAtMost, store_of, rows_at, Runs, SameLog, with_room};
 
 use crate::change_fault::ChangeFault;
 use crate::database::Db;
@@ -20,7 +20,7 @@ pub fn is_stopping(fault: ChangeFault) -> bool
 
 impl Db {
     /// Adds a header that was parsed under the next number, and answers it: what [`Db::add`] does of the header's own
-    /// bytes, which aren't checked again. It writes and reads as much, and leaves as much where the machine stops.
+    /// bytes, which aren't checked again. It writes and reads as much, and leaves as much after a crash.
     ///
     /// # Errors
     ///
@@ -36,13 +36,13 @@ impl Db {
         requires indexed { is_indexed self.old ≡ true }
         requires serving { self.old.stopped ≡ false → IsTrue D.tells → IsServing (D.files disk.old) (images D.Disk disk.old) self.old }
         requires own { header view.now.blob ≡ Ok view.now }
-        ensures causes { AddIs self.old view.now.blob result }
-        ensures number { IfOk result (λ n. n ≡ next_number self.old) }
+        ensures causes { AddAnswer self.old view.now.blob result }
+        ensures number { IfOk result (λ n. n ≡ next_package_number self.old) }
         ensures makes { Makes D.Disk disk.old disk.new (Add view.now.blob) self.old self.new result }
-        ensures left { IsLeft D.Disk disk.old disk.new self.old self.new (with_room (room self.new).spare self.old) result }
-        ensures end { OnOk result (IsTrue D.tells → ReachesTo (room self.new) (D.files disk.old).pkg (D.files disk.new).pkg) }
+        ensures left { IsLeft D.Disk disk.old disk.new self.old self.new (with_room (store_of self.new).spare self.old) result }
+        ensures end { OnOk result (IsTrue D.tells → ReachesTo (store_of self.new) (D.files disk.old).pkg (D.files disk.new).pkg) }
         ensures bad { IsTrue D.tells → BadIndexIs [] (D.files disk.old).idx result }
-        ensures reads { ReadsAtMost None (room self.old) (D.bytes_read disk.old Pkg) (D.bytes_read disk.new Pkg) }
+        ensures reads { ReadsAtMost None (store_of self.old) (D.bytes_read disk.old Pkg) (D.bytes_read disk.new Pkg) }
         ensures runs { Runs D.Disk SameLog disk.old disk.new }
         ensures cause { DiskFault D.Disk (result ≡ Err ChangeFault.DiskFault) disk.old disk.new }
     {
@@ -57,7 +57,7 @@ impl Db {
 
     /// Puts a header that was parsed in place of the package that a number has, Good or Bad: what [`Db::put`] does of
     /// the header's own bytes, which aren't checked again. It writes and reads as much, and leaves as much where the
-    /// machine stops.
+    /// machine crashes.
     ///
     /// # Errors
     ///
@@ -74,13 +74,13 @@ impl Db {
         requires indexed { is_indexed self.old ≡ true }
         requires serving { self.old.stopped ≡ false → IsTrue D.tells → IsServing (D.files disk.old) (images D.Disk disk.old) self.old }
         requires own { header view.now.blob ≡ Ok view.now }
-        ensures causes { PutIs self.old n view.now.blob result }
+        ensures causes { PutAnswer self.old n view.now.blob result }
         ensures makes { Makes D.Disk disk.old disk.new (Put n view.now.blob) self.old self.new result }
-        ensures left { IsLeft D.Disk disk.old disk.new self.old self.new (with_room (room self.new).spare self.old) result }
-        ensures end { OnOk result (IsTrue D.tells → ReachesTo (room self.new) (D.files disk.old).pkg (D.files disk.new).pkg) }
+        ensures left { IsLeft D.Disk disk.old disk.new self.old self.new (with_room (store_of self.new).spare self.old) result }
+        ensures end { OnOk result (IsTrue D.tells → ReachesTo (store_of self.new) (D.files disk.old).pkg (D.files disk.new).pkg) }
         ensures bad { IsTrue D.tells → BadIndexIs (rows_at n (finite.get (packages_in D.Disk disk.old self.old) n))
             (D.files disk.old).idx result }
-        ensures reads { D.bytes_read disk.new Pkg ≤ D.bytes_read disk.old Pkg + cost n self.old }
+        ensures reads { D.bytes_read disk.new Pkg ≤ D.bytes_read disk.old Pkg + package_cost n self.old }
         ensures runs { Runs D.Disk SameLog disk.old disk.new }
         ensures cause { DiskFault D.Disk (result ≡ Err ChangeFault.DiskFault) disk.old disk.new }
     {
@@ -105,15 +105,15 @@ impl Db {
         view: &View<'_>,
     ) -> Result<u32, ChangeFault>
         requires ready { IsReady D.Disk disk.old self.old }
-        requires takes { CanTake n (room self.old) }
+        requires takes { CanTake n (store_of self.old) }
         requires own { header view.now.blob ≡ Ok view.now }
-        ensures later { LaterIs (generation_of self.old) (IsFull (room self.old) (is_none n) (length view.now.blob)) result }
+        ensures later { LaterIs (generation_of self.old) (IsStoreFull (store_of self.old) (is_none n) (length view.now.blob)) result }
         ensures makes { Makes D.Disk disk.old disk.new (change_for n view.now.blob) self.old self.new result }
-        ensures number { IfOk result (λ m. m ≡ number_for n (room self.old)) }
-        ensures left { IsLeft D.Disk disk.old disk.new self.old self.new (with_room (room self.new).spare self.old) result }
-        ensures end { OnOk result (IsTrue D.tells → ReachesTo (room self.new) (D.files disk.old).pkg (D.files disk.new).pkg) }
+        ensures number { IfOk result (λ m. m ≡ number_for n (store_of self.old)) }
+        ensures left { IsLeft D.Disk disk.old disk.new self.old self.new (with_room (store_of self.new).spare self.old) result }
+        ensures end { OnOk result (IsTrue D.tells → ReachesTo (store_of self.new) (D.files disk.old).pkg (D.files disk.new).pkg) }
         ensures bad { IsTrue D.tells → BadIndexIs (old_rows n (packages_in D.Disk disk.old self.old)) (D.files disk.old).idx result }
-        ensures reads { ReadsAtMost n (room self.old) (D.bytes_read disk.old Pkg) (D.bytes_read disk.new Pkg) }
+        ensures reads { ReadsAtMost n (store_of self.old) (D.bytes_read disk.old Pkg) (D.bytes_read disk.new Pkg) }
         ensures runs { Runs D.Disk SameLog disk.old disk.new }
         ensures cause { DiskFault D.Disk (result ≡ Err ChangeFault.DiskFault) disk.old disk.new }
     {

@@ -2,9 +2,9 @@
 
 ghost use Rattle.std.specs.Prelude.{◌≡◌, ℕ, ◌+◌, ◌≤◌, IsTrue, IsSome, true, length, is_none, None, Some, Ok, Err, OnOk, IfOk, IfErr};
 ghost use Rattle.std.specs.FinMap as finite;
-ghost use Rattle.rpm_db.specs.Prelude.{AreLawful, blobs, CanChange, CanEdit, CanTake, field_for, FindsRoom, HasEdit, HasRows, header, header_rows, images, IndexIs, IsChangedStill, IsDone, IsFull, IsOfRoom, IsPlaced, IsRefusal, KeepsSums, LaterIs, LeavesIn, live_of, number_for, old_rows, packages, packages_of, Pkg, put_map, raised, ReachesTo, ReadsAtMost, rows, RunsOr, SameLog, slot_with, state, state_of, units_for, with_spare};
+ghost use Rattle.rpm_db.specs.Prelude.{AreLawful, blobs, CanChange, CanEdit, CanTake, field_for, FindsRoom, HasEdit, HasRows, header, header_rows, images, IndexIs, IsChangedStill, IsDone, IsStoreFull, IsOfRoom, IsBlobPlanned, IsRefusal, KeepsSums, LaterIs, CrashLeaves, live_of, number_for, old_rows, packages, packages_of, Pkg, put_map, raised_store, ReachesTo, ReadsAtMost, rows, RunsOr, SameLog, slot_with, state, state_of, units_for, with_spare};
 ghost use Rattle.rpm_pkgdb.specs.Costs.{cost};
-ghost use Rattle.rpm_db.specs.inner.Both.{IsRefused};
+ghost use Rattle.rpm_db.specs.inner.Both.{IsBothRefused};
 
 use crate::change_fault::ChangeFault;
 use crate::changing::change_both;
@@ -37,8 +37,8 @@ pub fn plan_blob(
     requires takes { CanTake n store.old }
     ensures value { store.new ≡ with_spare store.new.spare store.old }
     ensures made { 1 ≤ store.new.pages }
-    ensures later { LaterIs store.old.generation (IsFull store.old (is_none n) (length view.now.blob)) result }
-    ensures placed { IsPlaced n (length view.now.blob) store.old result }
+    ensures later { LaterIs store.old.generation (IsStoreFull store.old (is_none n) (length view.now.blob)) result }
+    ensures placed { IsBlobPlanned n (length view.now.blob) store.old result }
     ensures plan { IfOk result (λ plan. CanEdit (Edit.Put plan) view.now.blob store.new) }
     ensures own { OnOk result (header view.now.blob ≡ Ok view.now) }
     ensures kinds { IfErr result IsOfRoom }
@@ -76,10 +76,10 @@ pub fn write_header<D: Disk>(
         (units_for (rows (packages_of (put_map (D.files disk.old).pkg store.old n view.now.blob)))) result }
     ensures end { OnOk result (IsTrue D.tells → ReachesTo store.new (D.files disk.old).pkg (D.files disk.new).pkg) }
     ensures refused { IfErr result (λ e. IsRefusal e
-        → IsRefused D.Disk disk.old disk.new (with_spare store.new.spare store.old) store.new index.old index.new) }
-    ensures stops { IsTrue D.tells → AreLawful (images D.Disk disk.old)
+        → IsBothRefused D.Disk disk.old disk.new (with_spare store.new.spare store.old) store.new index.old index.new) }
+    ensures crashes { IsTrue D.tells → AreLawful (images D.Disk disk.old)
         → HasRows (packages (D.files disk.old).pkg store.old) (D.files disk.old).idx
-        → LeavesIn D.Disk disk.old disk.new (IsChangedStill (state (D.files disk.old).pkg store.old)
+        → CrashLeaves D.Disk disk.old disk.new (IsChangedStill (state (D.files disk.old).pkg store.old)
         (state_of (put_map (D.files disk.old).pkg store.old n view.now.blob) (field_for n store.old))
         (images D.Disk disk.old)) }
     ensures reads { ReadsAtMost n store.old (D.bytes_read disk.old Pkg) (D.bytes_read disk.new Pkg) }
@@ -116,7 +116,7 @@ pub fn erase_number<D: Disk>(
     requires ready { CanChange D.Disk disk.old store.old index.old }
     requires held { IsSome (slot_with n store.old.slots) }
     ensures later { LaterIs store.old.generation ⊥ result }
-    ensures edit { OnOk result (HasEdit (Edit.Erase n) (raised store.old) store.new) }
+    ensures edit { OnOk result (HasEdit (Edit.Erase n) (raised_store store.old) store.new) }
     ensures made { 1 ≤ store.new.pages }
     ensures done { OnOk result (IsDone D.Disk disk.old disk.new store.old store.new index.new
         (finite.remove (blobs (D.files disk.old).pkg store.old) n) store.old.field index.old.units) }
@@ -125,10 +125,10 @@ pub fn erase_number<D: Disk>(
         (old_rows (Some n) (packages (D.files disk.old).pkg store.old))
         (units_for (rows (packages_of (finite.remove (blobs (D.files disk.old).pkg store.old) n)))) result }
     ensures end { OnOk result (IsTrue D.tells → length (D.files disk.new).pkg ≤ length (D.files disk.old).pkg) }
-    ensures refused { IfErr result (λ e. IsRefusal e → IsRefused D.Disk disk.old disk.new store.old store.new index.old index.new) }
-    ensures stops { IsTrue D.tells → AreLawful (images D.Disk disk.old)
+    ensures refused { IfErr result (λ e. IsRefusal e → IsBothRefused D.Disk disk.old disk.new store.old store.new index.old index.new) }
+    ensures crashes { IsTrue D.tells → AreLawful (images D.Disk disk.old)
         → HasRows (packages (D.files disk.old).pkg store.old) (D.files disk.old).idx
-        → LeavesIn D.Disk disk.old disk.new (IsChangedStill (state (D.files disk.old).pkg store.old)
+        → CrashLeaves D.Disk disk.old disk.new (IsChangedStill (state (D.files disk.old).pkg store.old)
         (state_of (finite.remove (blobs (D.files disk.old).pkg store.old) n) store.old.field)
         (images D.Disk disk.old)) }
     ensures reads { D.bytes_read disk.new Pkg ≤ D.bytes_read disk.old Pkg + cost n store.old }

@@ -2,7 +2,7 @@
 
 ghost use Rattle.std.specs.Prelude.{◌≡◌, ℕ, ◌+◌, ◌≤◌, ◌↔◌, IsTrue, false, Ok, Err, IfOk, MatchResult};
 ghost use Rattle.std.specs.FinMap as finite;
-ghost use Rattle.rpm_db.specs.Prelude.{cost, CutIs, DiskFault, GetIs, holds, Looks, package_of, Pkg, ReadIs, state_in};
+ghost use Rattle.rpm_db.specs.Prelude.{package_cost, CutIs, DiskFault, GetAnswer, holds, OnlyReads, package_of, Pkg, ReadAnswer, state_in};
 ghost use Rattle.rpm_db.specs.Database.{Keeps};
 
 use crate::database::Db;
@@ -39,9 +39,9 @@ impl Db {
     pub fn read<D: Disk>(&self, alloc: Global, disk: &mut D, n: u32) -> Result<Vec<u8>, GetFault>
         requires keeps { IsTrue D.tells → Keeps (D.files disk.old).pkg self.now }
         ensures kept { IsTrue D.tells → Keeps (D.files disk.new).pkg self.now }
-        ensures told { IsTrue D.tells → ReadIs (finite.get (state_in D.Disk disk.old self.now).packages n) result }
+        ensures told { IsTrue D.tells → ReadAnswer (finite.get (state_in D.Disk disk.old self.now).packages n) result }
         ensures absent { (result ≡ Err GetFault.NoSuch) ↔ (holds n self.now ≡ false) }
-        ensures looks { Looks D.Disk Pkg (cost n self.now) disk.old disk.new }
+        ensures looks { OnlyReads D.Disk Pkg (package_cost n self.now) disk.old disk.new }
         ensures cause { DiskFault D.Disk (result ≡ Err GetFault.DiskFault) disk.old disk.new }
     {
         self.read_in(disk, n, Vec::new(alloc))
@@ -56,9 +56,9 @@ impl Db {
     pub fn read_in<D: Disk>(&self, disk: &mut D, n: u32, room: Vec<u8>) -> Result<Vec<u8>, GetFault>
         requires keeps { IsTrue D.tells → Keeps (D.files disk.old).pkg self.now }
         ensures kept { IsTrue D.tells → Keeps (D.files disk.new).pkg self.now }
-        ensures told { IsTrue D.tells → ReadIs (finite.get (state_in D.Disk disk.old self.now).packages n) result }
+        ensures told { IsTrue D.tells → ReadAnswer (finite.get (state_in D.Disk disk.old self.now).packages n) result }
         ensures absent { (result ≡ Err GetFault.NoSuch) ↔ (holds n self.now ≡ false) }
-        ensures looks { Looks D.Disk Pkg (cost n self.now) disk.old disk.new }
+        ensures looks { OnlyReads D.Disk Pkg (package_cost n self.now) disk.old disk.new }
         ensures cause { DiskFault D.Disk (result ≡ Err GetFault.DiskFault) disk.old disk.new }
     {
         self.store.get_in(disk, n, room)
@@ -77,9 +77,9 @@ impl Db {
     pub fn get<D: Disk>(&self, alloc: Global, disk: &mut D, n: u32) -> Result<Vec<u8>, GetFault>
         requires keeps { IsTrue D.tells → Keeps (D.files disk.old).pkg self.now }
         ensures kept { IsTrue D.tells → Keeps (D.files disk.new).pkg self.now }
-        ensures told { IsTrue D.tells → GetIs (finite.get (state_in D.Disk disk.old self.now).packages n) result }
+        ensures told { IsTrue D.tells → GetAnswer (finite.get (state_in D.Disk disk.old self.now).packages n) result }
         ensures absent { (result ≡ Err GetFault.NoSuch) ↔ (holds n self.now ≡ false) }
-        ensures looks { Looks D.Disk Pkg (cost n self.now) disk.old disk.new }
+        ensures looks { OnlyReads D.Disk Pkg (package_cost n self.now) disk.old disk.new }
         ensures cause { DiskFault D.Disk (result ≡ Err GetFault.DiskFault) disk.old disk.new }
     {
         self.get_in(disk, n, Vec::new(alloc))
@@ -93,9 +93,9 @@ impl Db {
     pub fn get_in<D: Disk>(&self, disk: &mut D, n: u32, room: Vec<u8>) -> Result<Vec<u8>, GetFault>
         requires keeps { IsTrue D.tells → Keeps (D.files disk.old).pkg self.now }
         ensures kept { IsTrue D.tells → Keeps (D.files disk.new).pkg self.now }
-        ensures told { IsTrue D.tells → GetIs (finite.get (state_in D.Disk disk.old self.now).packages n) result }
+        ensures told { IsTrue D.tells → GetAnswer (finite.get (state_in D.Disk disk.old self.now).packages n) result }
         ensures absent { (result ≡ Err GetFault.NoSuch) ↔ (holds n self.now ≡ false) }
-        ensures looks { Looks D.Disk Pkg (cost n self.now) disk.old disk.new }
+        ensures looks { OnlyReads D.Disk Pkg (package_cost n self.now) disk.old disk.new }
         ensures cause { DiskFault D.Disk (result ≡ Err GetFault.DiskFault) disk.old disk.new }
     {
         let blob = self.read_in(disk, n, room)?;

@@ -1,14 +1,14 @@
 //! Making the index anew.
 
 ghost use Rattle.std.specs.Prelude.{◌≡◌, ◌⊎◌, ℕ, ◌+◌, ◌≤◌, IsTrue, true, false, is_some, None, Err, OnOk, IfErr};
-ghost use Rattle.rpm_db.specs.Prelude.{DiskFault, FullIs, is_indexed, IsRebuilt, IsRefused, IsRemade, IsRenewed, IsStill, KeepsIndex, KeepsUnits, packages, Pkg, ReachesMade, ReadAtMost, RebuildIs, Remade, rows, Runs, StaysLawful, units_for};
-ghost use Rattle.rpm_db.specs.Database.{Keeps, cost_all};
+ghost use Rattle.rpm_db.specs.Prelude.{DiskFault, FullIs, is_indexed, IsRebuilt, IsRebuildRefused, IsRemade, IsRenewed, IsStill, KeepsIndex, KeepsUnits, packages, Pkg, ReachesMade, ReadAtMost, RebuildIs, Remade, rows, Runs, StaysLawful, units_for};
+ghost use Rattle.rpm_db.specs.Database.{Keeps, packages_cost};
 ghost use Rattle.rpm_pkgdb.specs.Costs as costs;
 ghost use Rattle.rpm_pkgdb.specs.Store as pkgdb;
 
 use crate::change_fault::ChangeFault;
 use crate::database::Db;
-use crate::indexing::{make_index, settle};
+use crate::indexing::{make_index, sync_both};
 use rpm_hindex::{Hindex, RewriteFault};
 use rpm_outside::Disk;
 use rpm_pkgdb::PkgDb;
@@ -22,12 +22,12 @@ fn remake<D: Disk>(
     index: &mut Option<Hindex>,
 ) -> Result<(), RewriteFault>
     requires some { is_some index.old ≡ true }
-    requires keeps { IsTrue D.tells → pkgdb.Keeps (D.files disk.old).pkg store.now }
+    requires keeps { IsTrue D.tells → pkgdb.KeepsStore (D.files disk.old).pkg store.now }
     requires index { IsTrue D.tells → KeepsUnits (D.files disk.old).idx index.old }
     ensures full { IsTrue D.tells → FullIs (units_for (rows (packages (D.files disk.old).pkg store.now))) result }
     ensures some { is_some index.new ≡ true }
     ensures remade { OnOk result (IsRemade D.Disk disk.new store.now.generation index.new) }
-    ensures refused { IfErr result (λ e. IsRefused e → (index.new ≡ index.old) × (IsTrue D.tells → D.files disk.new ≡ D.files disk.old)) }
+    ensures refused { IfErr result (λ e. IsRebuildRefused e → (index.new ≡ index.old) × (IsTrue D.tells → D.files disk.new ≡ D.files disk.old)) }
     ensures reach { OnOk result (IsTrue D.tells
         → ReachesMade (units_for (rows (packages (D.files disk.old).pkg store.now))) (D.files disk.old).idx
         (D.files disk.new).idx) }
@@ -35,7 +35,7 @@ fn remake<D: Disk>(
     ensures runs { Runs D.Disk Remade disk.old disk.new }
     ensures cause { DiskFault D.Disk (result ≡ Err RewriteFault.DiskFault) disk.old disk.new }
 {
-    let Ok(()) = settle(disk) else {
+    let Ok(()) = sync_both(disk) else {
         return Err(RewriteFault::DiskFault);
     };
     match index {
@@ -65,8 +65,8 @@ impl Db {
         ensures rebuilt { IsTrue D.tells → IsRebuilt (D.files disk.old) (D.files disk.new) self.old self.new result }
         ensures still { IsStill self.old self.new result }
         ensures renewed { OnOk result (IsRenewed D.Disk disk.old disk.new self.old self.new) }
-        ensures stops { IsTrue D.tells → StaysLawful D.Disk disk.old disk.new }
-        ensures reads { ReadAtMost Pkg (cost_all self.old) (D.bytes_read disk.old) (D.bytes_read disk.new) }
+        ensures crashes { IsTrue D.tells → StaysLawful D.Disk disk.old disk.new }
+        ensures reads { ReadAtMost Pkg (packages_cost self.old) (D.bytes_read disk.old) (D.bytes_read disk.new) }
         ensures runs { Runs D.Disk Remade disk.old disk.new }
         ensures cause { DiskFault D.Disk (result ≡ Err ChangeFault.DiskFault) disk.old disk.new }
     {

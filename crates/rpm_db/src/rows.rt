@@ -2,7 +2,7 @@
 
 ghost use Rattle.std.specs.Prelude.{◌≡◌, ℕ, ◌++◌, ◌∷◌, [], IsTrue, Err, OnOk, IfOk, IfErr};
 ghost use Rattle.std.specs.FinMap as finite;
-ghost use Rattle.rpm_db.specs.Prelude.{code_of, cost_all, DiskFault, header, header_rows, IsOutside, Keeps, kind_rows, Looks, packages, Pkg, rows, rows_at, rows_read};
+ghost use Rattle.rpm_db.specs.Prelude.{code_of, cost_all, DiskFault, header, header_rows, IsOutsideRebuild, KeepsStore, kind_rows, OnlyReads, packages, Pkg, rows, rows_at, rows_read};
 ghost use Rattle.rpm_pkgdb.specs.Costs.{cost};
 
 use rpm_header::View;
@@ -83,12 +83,12 @@ pub fn push_package<D: Disk>(
     number: u32,
     room: Vec<u8>,
 ) -> Result<Vec<u8>, RewriteFault>
-    requires keeps { IsTrue D.tells → Keeps (D.files disk.old).pkg store.now }
-    ensures kept { IsTrue D.tells → Keeps (D.files disk.new).pkg store.now }
+    requires keeps { IsTrue D.tells → KeepsStore (D.files disk.old).pkg store.now }
+    ensures kept { IsTrue D.tells → KeepsStore (D.files disk.new).pkg store.now }
     ensures rows { OnOk result (IsTrue D.tells → rows.new ≡ rows.old ++ rows_at number
         (finite.get (packages (D.files disk.old).pkg store.now) number)) }
-    ensures room { IfErr result IsOutside }
-    ensures looks { Looks D.Disk Pkg (cost number store.now) disk.old disk.new }
+    ensures room { IfErr result IsOutsideRebuild }
+    ensures looks { OnlyReads D.Disk Pkg (cost number store.now) disk.old disk.new }
     ensures cause { DiskFault D.Disk (result ≡ Err RewriteFault.DiskFault) disk.old disk.new }
 {
     match store.get_in(disk, number, room) {
@@ -105,11 +105,11 @@ pub fn push_package<D: Disk>(
 
 /// The rows of all packages. Reads the blocks of each once.
 pub fn rows_of<D: Disk>(alloc: Global, disk: &mut D, store: &PkgDb) -> Result<Rows, RewriteFault>
-    requires keeps { IsTrue D.tells → Keeps (D.files disk.old).pkg store.now }
-    ensures kept { IsTrue D.tells → Keeps (D.files disk.new).pkg store.now }
+    requires keeps { IsTrue D.tells → KeepsStore (D.files disk.old).pkg store.now }
+    ensures kept { IsTrue D.tells → KeepsStore (D.files disk.new).pkg store.now }
     ensures rows { IfOk result (λ all. IsTrue D.tells → all ≡ rows (packages (D.files disk.old).pkg store.now)) }
-    ensures room { IfErr result IsOutside }
-    ensures looks { Looks D.Disk Pkg (cost_all store.now) disk.old disk.new }
+    ensures room { IfErr result IsOutsideRebuild }
+    ensures looks { OnlyReads D.Disk Pkg (cost_all store.now) disk.old disk.new }
     ensures cause { DiskFault D.Disk (result ≡ Err RewriteFault.DiskFault) disk.old disk.new }
 {
     let mut rows = Rows::new(alloc);

@@ -1,7 +1,7 @@
 //! Whether a package is sound.
 
 ghost use Rattle.std.specs.Prelude.{◌≡◌, ◌≢◌, ℕ, length, ◌+◌, ◌≤◌, ◌↔◌, IsTrue, false, Some, Err};
-ghost use Rattle.rpm_db.specs.Prelude.{cost, differs, DiskFault, first_text, header, header_verdict, holds, immutable_digest, is_digest_wrong, Looks, option_copied, option_map, Pkg, verdict, VerifyIs};
+ghost use Rattle.rpm_db.specs.Prelude.{package_cost, digest_differs, DiskFault, first_text, header, header_verdict, holds, immutable_digest, is_digest_wrong, OnlyReads, option_copied, option_map, Pkg, verdict, VerifyAnswer};
 ghost use Rattle.rpm_db.specs.Database.{Keeps};
 
 use crate::database::Db;
@@ -29,7 +29,7 @@ pub enum Verdict {
 /// Whether a text isn't this digest in hex.
 fn is_other(digest: &[u8], text: &[u8]) -> bool
     requires { length digest.now ≡ 32 }
-    ensures { result ≡ differs (Some digest.now) (Some text.now) }
+    ensures { result ≡ digest_differs (Some digest.now) (Some text.now) }
 {
     let mut digits = [0u8; 64];
     match encode_to_slice(digest, &mut digits) {
@@ -78,10 +78,10 @@ impl Db {
         requires keeps { IsTrue D.tells → Keeps (D.files disk.old).pkg self.now }
         requires runs { self.now.stopped ≡ false }
         ensures kept { IsTrue D.tells → Keeps (D.files disk.new).pkg self.now }
-        ensures told { IsTrue D.tells → VerifyIs (verdict (D.files disk.old).pkg self.now n) result }
+        ensures told { IsTrue D.tells → VerifyAnswer (verdict (D.files disk.old).pkg self.now n) result }
         ensures absent { (result ≡ Err GetFault.NoSuch) ↔ (holds n self.now ≡ false) }
         ensures never_bad { result ≢ Err GetFault.Bad }
-        ensures looks { Looks D.Disk Pkg (cost n self.now) disk.old disk.new }
+        ensures looks { OnlyReads D.Disk Pkg (package_cost n self.now) disk.old disk.new }
         ensures cause { DiskFault D.Disk (result ≡ Err GetFault.DiskFault) disk.old disk.new }
     {
         match self.store.read_checked(alloc, disk, n) {

@@ -1,7 +1,7 @@
 //! Writing a change: the store after a raise of its generation, and then the index.
 
 ghost use Rattle.std.specs.Prelude.{◌≡◌, ℕ, ◌+◌, ◌<◌, ◌≤◌, ◌^◌, IsTrue, true, false, Err, OnOk, OnErr, IfErr};
-ghost use Rattle.rpm_db.specs.Prelude.{Anything, blobs, BlobsTo, CanApply, CanEdit, edit_cost, edited, edited_number, EditReaches, EditsTo, field_edited, HasEdit, Idx, images, IndexTo, IsApplied, IsEdited, IsQuiet, IsStored, KeepsSums, LeavesIn, Pkg, raised, Stops, Suits, Writes};
+ghost use Rattle.rpm_db.specs.Prelude.{Anything, blobs, BlobsTo, CanApply, CanEdit, edit_cost, edited_blobs, edited_number, EditReaches, EditsTo, field_edited, HasEdit, Idx, images, IndexTo, IsApplied, IsEdited, IsQuiet, IsStoreWritten, KeepsSums, CrashLeaves, Pkg, raised_store, IsTornOnly, Suits, Writes};
 ghost use Rattle.rpm_outside.specs.Frame.{WritesOr};
 ghost use Rattle.rpm_pkgdb.specs.Frame as pkgdb;
 ghost use Rattle.rpm_hindex.specs.State as hindex;
@@ -29,14 +29,14 @@ fn edit_store<D: Disk>(
     edit: Edit,
     blob: &[u8],
 ) -> Result<(), DiskFault>
-    requires ready { pkgdb.IsReady D.Disk disk.old store.old }
+    requires ready { pkgdb.IsWritable D.Disk disk.old store.old }
     requires suits { Suits edit blob.now store.old }
     requires generation { store.old.generation < 2 ^ 32 }
     ensures edit { OnOk result (HasEdit edit store.old store.new) }
     ensures err { OnErr result (store.new.pages ≡ store.old.pages) }
     ensures edited { OnOk result (IsTrue D.tells → IsEdited D.Disk disk.old disk.new store.old store.new edit blob.now) }
-    ensures stops { IsTrue D.tells → IsQuiet store.old (D.files disk.old) (images D.Disk disk.old)
-        → LeavesIn D.Disk disk.old disk.new (Stops Pkg (EditsTo store.old edit blob.now (D.files disk.old).pkg)
+    ensures crashes { IsTrue D.tells → IsQuiet store.old (D.files disk.old) (images D.Disk disk.old)
+        → CrashLeaves D.Disk disk.old disk.new (IsTornOnly Pkg (EditsTo store.old edit blob.now (D.files disk.old).pkg)
         (images D.Disk disk.old)) }
     ensures writes { Writes D.Disk Pkg Anything (edit_cost edit store.old) result disk.old disk.new }
 {
@@ -60,15 +60,15 @@ pub fn edit_raised<D: Disk>(
     edit: Edit,
     blob: &[u8],
 ) -> Result<(), DiskFault>
-    requires ready { pkgdb.IsReady D.Disk disk.old store.old }
+    requires ready { pkgdb.IsWritable D.Disk disk.old store.old }
     requires can { CanEdit edit blob.now store.old }
-    ensures edit { OnOk result (HasEdit edit (raised store.old) store.new) }
+    ensures edit { OnOk result (HasEdit edit (raised_store store.old) store.new) }
     ensures err { OnErr result (store.new.pages ≡ store.old.pages) }
-    ensures stored { OnOk result (IsStored D.Disk disk.new store.new (edited edit blob.now (blobs (D.files disk.old).pkg store.old))) }
+    ensures stored { OnOk result (IsStoreWritten D.Disk disk.new store.new (edited_blobs edit blob.now (blobs (D.files disk.old).pkg store.old))) }
     ensures images { IsTrue D.tells → IsQuiet store.old (D.files disk.old) (images D.Disk disk.old)
-        → LeavesIn D.Disk disk.old disk.new (Stops Pkg (BlobsTo store.old.generation store.old.field
+        → CrashLeaves D.Disk disk.old disk.new (IsTornOnly Pkg (BlobsTo store.old.generation store.old.field
         (field_edited edit store.old.field) (blobs (D.files disk.old).pkg store.old)
-        (edited edit blob.now (blobs (D.files disk.old).pkg store.old))) (images D.Disk disk.old)) }
+        (edited_blobs edit blob.now (blobs (D.files disk.old).pkg store.old))) (images D.Disk disk.old)) }
     ensures sums { OnOk result (IsTrue D.tells → KeepsSums (edited_number edit) (D.files disk.old).pkg (D.files disk.new).pkg store.old store.new) }
     ensures end { OnOk result (IsTrue D.tells → EditReaches edit store.new (D.files disk.old).pkg (D.files disk.new).pkg) }
     ensures writes { Writes D.Disk Pkg Anything (edit_cost edit store.old) result disk.old disk.new }
@@ -87,7 +87,7 @@ fn apply_sealed<D: Disk>(
     generation: u32,
 ) -> Result<(), IndexDiskFault>
     requires change { CanApply index.old.units plan.work }
-    requires keeps { IsTrue D.tells → hindex.Keeps (D.files disk.old).idx index.old }
+    requires keeps { IsTrue D.tells → hindex.KeepsIndexValue (D.files disk.old).idx index.old }
     ensures applied { OnOk result (IsApplied D.Disk disk.old disk.new index.old index.new generation plan.work) }
     ensures writes { Writes D.Disk Idx (IndexTo generation plan.work (D.files disk.old).idx) 0 result disk.old disk.new }
 {
@@ -109,7 +109,7 @@ pub fn write_rows<D: Disk>(
     generation: u32,
 ) -> Result<(), ChangeFault>
     requires change { CanApply index.old.units plan.work }
-    requires keeps { IsTrue D.tells → hindex.Keeps (D.files disk.old).idx index.old }
+    requires keeps { IsTrue D.tells → hindex.KeepsIndexValue (D.files disk.old).idx index.old }
     ensures applied { OnOk result (IsApplied D.Disk disk.old disk.new index.old index.new generation plan.work) }
     ensures kind { IfErr result (λ e. e ≡ ChangeFault.DiskFault) }
     ensures writes { WritesOr D.Disk Idx (IndexTo generation plan.work (D.files disk.old).idx) 0

@@ -1,8 +1,8 @@
--- How far a command went, and what it answers. On it rest `plain` and `files` of the page (`rpm_tool`, Theorem.antt), and `Ends`, by which `run` puts the
--- closing line after all of it.
+-- How far a command went, and what it answers. On it rest `plain` and `files` of the page (`rpm_tool`, Theorem.antt),
+-- and `ClosingEnding`, by which `run` puts the closing line after all of it.
 use Rattle.std.specs.Prelude.{◌≡◌, ◌⊎◌, ℕ, List, [], ◌∷◌, Bool, true, false, Result, Ok, Err, IfOk}
 use Rattle.rpm_outside.specs.Causes.{Rose}
-use Rattle.rpm_outside.specs.Sinks.{Gained, GainedPart}
+use Rattle.rpm_outside.specs.Sinks.{GainIs, GainedPart}
 use Rattle.rpm_pkgdb.specs.declared.slot.Damage.{Damage}
 use Rattle.rpm_effects.specs.declared.tally.Halt.{Halt}
 use Rattle.rpm_effects.specs.declared.tally.Halt.TheVariants as halt
@@ -10,8 +10,8 @@ use Rattle.rpm_effects.specs.declared.answer.Why.{Why}
 use Rattle.rpm_effects.specs.declared.answer.Why.TheVariants as why
 use Rattle.rpm_effects.specs.Classes.{is_of_asking}
 use Rattle.rpm_effects.specs.Endings.{why_of_halt}
-use Rattle.rpm_effects.specs.Progress.{Outputs, Through, Progress, Only, Counted}
-use Rattle.rpm_effects.specs.Steps.{Bearer, Step, Course, is_out, cut}
+use Rattle.rpm_effects.specs.Progress.{Outputs, Through, Progress, Only, CountsFailed}
+use Rattle.rpm_effects.specs.Steps.{Bearer, Step, Course, is_out, cut_step}
 use Rattle.rpm_effects.specs.Portions.{Portion}
 
 -- how far a call that asks went through these steps: to their end, or to where it was halted
@@ -25,13 +25,16 @@ abbrev pub StepIs : Step → Result Bool Halt → Outputs → Outputs → Type 0
 StepIs step (Ok to_out) old new = (is_out step ≡ to_out) × Through (step ∷ []) old new
 StepIs step (Err halt.DiskFault) old new = Through [] old new
 StepIs step (Err halt.ShelfFault) old new = Through [] old new
-StepIs step (Err halt.OutFault) old new = (is_out step ≡ true) × ((bytes : ℕ) × Through (cut bytes step ∷ []) old new)
-StepIs step (Err halt.ErrFault) old new = (is_out step ≡ false) × ((bytes : ℕ) × Through (cut bytes step ∷ []) old new)
+StepIs step (Err halt.OutFault) old new = (is_out step ≡ true)
+    × ((bytes : ℕ) × Through (cut_step bytes step ∷ []) old new)
+StepIs step (Err halt.ErrFault) old new = (is_out step ≡ false)
+    × ((bytes : ℕ) × Through (cut_step bytes step ∷ []) old new)
 StepIs step (Err halt.NoMemory) old new = Through [] old new
 StepIs step (Err others) old new = ⊥
 
 -- a portion was written, or part of it, with the answer whether the argument fails for it
-pub record PartIs (part : Portion) (result : Result Bool Halt) (old new : Outputs) (reads_to : Bearer → Type 0) : Type 0 where
+pub record PartIs (part : Portion) (result : Result Bool Halt) (old new : Outputs)
+    (reads_to : Bearer → Type 0) : Type 0 where
   pub steps : PartProgress part.steps result old new reads_to
   pub fails : IfOk result (λ fails. part.fails ≡ fails)
 
@@ -40,7 +43,7 @@ pub record PartIs (part : Portion) (result : Result Bool Halt) (old new : Output
 -- how far a command that asks went through its course, where the database is in order, and how many arguments failed
 abbrev pub CommandProgress : Course → Why → Outputs → Outputs → (Bearer → Type 0) → Type 0
 CommandProgress course given old new reads_to =
-    Only (is_of_asking given) (Counted course.failed given (Progress course.steps given old new reads_to))
+    Only (is_of_asking given) (CountsFailed course.failed given (Progress course.steps given old new reads_to))
 
 -- where the log is malformed: that is told, and not a damage
 abbrev pub Misread : ℕ → Why → Type 0
@@ -50,21 +53,22 @@ Misread unit why.NoMemory = Unit {0}
 Misread unit _ = ⊥
 
 -- where the database is damaged
-abbrev pub Refused : Damage → Why → Type 0
-Refused damage (why.Damaged d) = d ≡ damage
-Refused damage why.DiskFault = Unit {0}
-Refused damage why.NoMemory = Unit {0}
-Refused damage _ = ⊥
+abbrev pub RefusalIs : Damage → Why → Type 0
+RefusalIs damage (why.Damaged d) = d ≡ damage
+RefusalIs damage why.DiskFault = Unit {0}
+RefusalIs damage why.NoMemory = Unit {0}
+RefusalIs damage _ = ⊥
 
 -- ---- the closing line
 
 -- a line to err that went through, or of which err took the first bytes and failed
 abbrev pub Closes : List ℕ → Outputs → Outputs → ℕ → ℕ → Type 0
-Closes line old new before now = (new.out ≡ old.out) × (Gained new.err_tells old.err new.err line ⊎ (GainedPart new.err_tells old.err new.err line
+Closes line old new before now = (new.out ≡ old.out)
+    × (GainIs new.err_tells old.err new.err line ⊎ (GainedPart new.err_tells old.err new.err line
     × Rose before now))
 
 -- what was done, and then the closing line
-pub record Ends (Did : Outputs → Type 0) (line : List ℕ) (new : Outputs) (before now : ℕ) : Type 0 where
+pub record ClosingEnding (Did : Outputs → Type 0) (line : List ℕ) (new : Outputs) (before now : ℕ) : Type 0 where
   pub mid : Outputs
   pub did : Did mid
   pub closes : Closes line mid new before now

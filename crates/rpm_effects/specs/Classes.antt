@@ -1,5 +1,6 @@
--- Each ending by its class, and the sets of endings that contracts name, each by the classes in it. On it rest `counted` of all answers, `kind`,
--- `complete` and `index` of a question by key, and `changed` of a change, on the page (`rpm_tool`, Theorem.antt).
+-- Each ending by its class, and the sets of endings that contracts name, each by the classes in it. On it rest
+-- `counted` of all answers, `kind`, `complete` and `index` of a question by key, and `changed` of a change, on the page
+-- (`rpm_tool`, Theorem.antt).
 use Rattle.std.specs.Prelude.{ℕ, Bool, false, not, ◌==◌, ◌||◌, List, [], ◌∷◌, IsTrue}
 use Rattle.rpm_effects.specs.declared.tally.Halt.{Halt}
 use Rattle.rpm_effects.specs.declared.answer.Why.{Why}
@@ -11,25 +12,25 @@ pub data Class : Type 0 where
   Done Words MalformedLog Damage Limit HeldPackages MalformedIndex FullIndex FullLog Disk Shelf Sink Memory : Class
 
 -- the class of each ending
-abbrev pub class_of : Why → Class
-class_of why.Done = Done
-class_of (why.Failed n) = Done
-class_of (why.Usage fault) = Words
-class_of (why.BadFormat fault) = Words
-class_of (why.BadLog unit) = MalformedLog
-class_of (why.Damaged damage) = Damage
-class_of why.NumbersSpent = Limit
-class_of why.GenerationSpent = Limit
-class_of why.StoreFull = Limit
-class_of (why.NotEmpty held) = HeldPackages
-class_of (why.BadIndex unit) = MalformedIndex
-class_of (why.IndexFull needed) = FullIndex
-class_of (why.LogFull needed) = FullLog
-class_of why.DiskFault = Disk
-class_of why.ShelfFault = Shelf
-class_of why.OutFault = Sink
-class_of why.ErrFault = Sink
-class_of why.NoMemory = Memory
+abbrev pub class_of_ending : Why → Class
+class_of_ending why.Done = Done
+class_of_ending (why.Failed n) = Done
+class_of_ending (why.Usage fault) = Words
+class_of_ending (why.BadFormat fault) = Words
+class_of_ending (why.BadLog unit) = MalformedLog
+class_of_ending (why.Damaged damage) = Damage
+class_of_ending why.NumbersSpent = Limit
+class_of_ending why.GenerationSpent = Limit
+class_of_ending why.StoreFull = Limit
+class_of_ending (why.NotEmpty held) = HeldPackages
+class_of_ending (why.BadIndex unit) = MalformedIndex
+class_of_ending (why.IndexFull needed) = FullIndex
+class_of_ending (why.LogFull needed) = FullLog
+class_of_ending why.DiskFault = Disk
+class_of_ending why.ShelfFault = Shelf
+class_of_ending why.OutFault = Sink
+class_of_ending why.ErrFault = Sink
+class_of_ending why.NoMemory = Memory
 
 -- a number for each class, by which two are compared
 abbrev pub code : Class → ℕ
@@ -50,7 +51,7 @@ code Memory = 12
 -- whether an ending is of one of these
 abbrev pub is_among : List Class → Why → Bool
 is_among [] given = false
-is_among (class ∷ classes) given = is_among classes given || code class == code (class_of given)
+is_among (class ∷ classes) given = is_among classes given || code class == code (class_of_ending given)
 
 -- done, with or without arguments that failed
 abbrev pub is_done : Why → Bool
@@ -64,7 +65,8 @@ is_done_or_fault = is_among (Done ∷ Disk ∷ [])
 abbrev pub is_done_or_outside : Why → Bool
 is_done_or_outside = is_among (Done ∷ Disk ∷ Sink ∷ Memory ∷ [])
 
--- an ending that a command which asks has, once its database is in order: done, a fault of the outside, or want of memory
+-- an ending that a command which asks has, once its database is in order: done, a fault of the outside, or want of
+-- memory
 abbrev pub is_of_asking : Why → Bool
 is_of_asking = is_among (Done ∷ Disk ∷ Shelf ∷ Sink ∷ Memory ∷ [])
 
@@ -89,8 +91,8 @@ abbrev pub is_of_opening : Why → Bool
 is_of_opening = is_among (MalformedLog ∷ Damage ∷ FullIndex ∷ [])
 
 -- packages were found where there were to be none
-abbrev pub is_held : Why → Bool
-is_held = is_among (HeldPackages ∷ [])
+abbrev pub is_not_empty : Why → Bool
+is_not_empty = is_among (HeldPackages ∷ [])
 
 -- an ending that a lawful database may have: done, a limit, a fault of the outside, or want of memory
 abbrev pub is_of_lawful : Why → Bool

@@ -1,5 +1,5 @@
--- How a command ends: its status, and the ending that a halt, or a database that isn't recovered, loaded or opened, makes of it. Of them `status` of `run`
--- is on the page (`rpm_tool`, Theorem.antt).
+-- How a command ends: its status, and the ending that a halt, or a database that isn't recovered, loaded or opened,
+-- makes of it. Of them `status` of `run` is on the page (`rpm_tool`, Theorem.antt).
 use Rattle.std.specs.Prelude.{ℕ, min, Bool, true, Option, Some, None}
 use Rattle.rpm_file.specs.declared.fault.FileFault.{FileFault}
 use Rattle.rpm_file.specs.declared.fault.FileFault.TheVariants as file

@@ -1,4 +1,5 @@
--- What a call keeps of a sink that it writes to, through a buffer, and of a shelf. What the buffer held before is let go.
+-- What a call keeps of a sink that it writes to, through a buffer, and of a shelf. What the buffer held before is let
+-- go.
 use Rattle.std.specs.Prelude.{◌≡◌, ◌≢◌, Result, Err, IfErr, IsTrue}
 use Rattle.rpm_outside.specs.declared.shelf.Shelf as shelf
 use Rattle.rpm_outside.specs.declared.sink.Sink as sink
@@ -40,15 +41,18 @@ pub record PutsErr {E T : Type 0} (e : sink.Ghosts E) (result : Result T Halt) (
   pub err : Hand e (result ≡ Err halt.ErrFault) old new
 
 -- what a call keeps of both
-pub record Hands {O E : Type 0} (o : sink.Ghosts O) (e : sink.Ghosts E) (out_fails err_fails : Type 0) (out_old : Buffered O) (err_old : Buffered E)
+pub record Hands {O E : Type 0} (o : sink.Ghosts O) (e : sink.Ghosts E) (out_fails err_fails : Type 0)
+    (out_old : Buffered O) (err_old : Buffered E)
     (out_new : Buffered O) (err_new : Buffered E) : Type 0 where
   pub out : Hand o out_fails out_old out_new
   pub err : Hand e err_fails err_old err_new
 
 -- what a call keeps of both that may be halted
-abbrev pub HaltHands : {O E T : Type 0} → sink.Ghosts O → sink.Ghosts E → Result T Halt → Buffered O → Buffered E → Buffered O → Buffered E → Type 0
+abbrev pub HaltHands : {O E T : Type 0} → sink.Ghosts O → sink.Ghosts E → Result T Halt → Buffered O → Buffered E
+    → Buffered O → Buffered E → Type 0
 HaltHands o e result = Hands o e (result ≡ Err halt.OutFault) (result ≡ Err halt.ErrFault)
 
 -- what a command keeps of both, by its ending
-abbrev pub EndHands : {O E : Type 0} → sink.Ghosts O → sink.Ghosts E → Why → Buffered O → Buffered E → Buffered O → Buffered E → Type 0
+abbrev pub EndHands : {O E : Type 0} → sink.Ghosts O → sink.Ghosts E → Why → Buffered O → Buffered E → Buffered O
+    → Buffered E → Type 0
 EndHands o e ending = Hands o e (ending ≡ why.OutFault) (ending ≡ why.ErrFault)

@@ -4,9 +4,9 @@ pub mod Endings
 pub mod Hands
 pub mod Lines
 pub mod Portions
+pub mod Prelude
 pub mod Progress
 pub mod Shown
 pub mod Steps
 pub mod Texts
-pub mod inner
-pub mod Prelude
+pub mod laws

@@ -8,12 +8,13 @@ use Rattle.rpm_effects.specs.declared.tally.Halt.{Halt}
 use Rattle.rpm_effects.specs.declared.tally.Halt.TheVariants as halt
 use Rattle.rpm_effects.specs.Progress.{IsOfLines}
 use Rattle.rpm_effects.specs.Hands.{Hand}
-use Rattle.rpm_effects.specs.Steps.{Bearer, ToErr, failing}
+use Rattle.rpm_effects.specs.Steps.{Bearer, ToErr, course_of_failure}
 use Rattle.rpm_effects.specs.Shown.{EndedOnErr}
 
 -- a line goes to err, for whomever it is, and one argument fails; or the call says why it can't be written
-pub record Fails {E : Type 0} (e : sink.Ghosts E) (line : List ℕ) (old new : Buffered E) (r : Result Tally Halt) : Type 0 where
-  pub ended : (for : Bearer) (s : State) → EndedOnErr e old new (failing (ToErr for line)) s s r
+pub record Fails {E : Type 0} (e : sink.Ghosts E) (line : List ℕ) (old new : Buffered E)
+    (r : Result Tally Halt) : Type 0 where
+  pub ended : (for : Bearer) (s : State) → EndedOnErr e old new (course_of_failure (ToErr for line)) s s r
   pub one : IfOk r (λ tally. tally ≡ record { failed = 1; changes = 0 })
   pub kinds : IfErr r IsOfLines
   pub err : Hand e (r ≡ Err halt.ErrFault) old new

@@ -14,8 +14,8 @@ abbrev pub outs : {O E : Type 0} → sink.Ghosts O → sink.Ghosts E → O → E
 outs o e out err = outputs o.tells (o.taken out) e.tells (e.taken err)
 
 -- what they took behind their buffers
-abbrev pub shown : {O E : Type 0} → sink.Ghosts O → sink.Ghosts E → Buffered O → Buffered E → Outputs
-shown o e out err = outs o e (inner out) (inner err)
+abbrev pub shown_outputs : {O E : Type 0} → sink.Ghosts O → sink.Ghosts E → Buffered O → Buffered E → Outputs
+shown_outputs o e out err = outs o e (inner out) (inner err)
 
 -- what out took before and after a call, whatever err took
 abbrev pub OutTakes : {O : Type 0} → sink.Ghosts O → (Outputs → Outputs → Type 0) → Buffered O → Buffered O → Type 0

@@ -13,8 +13,8 @@ abbrev pub bearer : ℕ → ℕ → Bearer
 bearer j n = record { argument = j; number = Some n }
 
 -- an argument as a whole, without a package
-abbrev pub whole : ℕ → Bearer
-whole j = record { argument = j; number = None }
+abbrev pub whole_step : ℕ → Bearer
+whole_step j = record { argument = j; number = None }
 
 -- bytes to out, or to err
 pub data Step : Type 0 where
@@ -42,9 +42,9 @@ is_out (ToOut for bytes) = true
 is_out (ToErr for bytes) = false
 
 -- the first n bytes of a step
-abbrev pub cut : ℕ → Step → Step
-cut n (ToOut for bytes) = ToOut for (take n bytes)
-cut n (ToErr for bytes) = ToErr for (take n bytes)
+abbrev pub cut_step : ℕ → Step → Step
+cut_step n (ToOut for bytes) = ToOut for (take n bytes)
+cut_step n (ToErr for bytes) = ToErr for (take n bytes)
 
 -- the steps of a command, how many of its arguments fail, and its changes: they come last, all as one
 pub record Course : Type 0 where
@@ -57,16 +57,17 @@ abbrev pub idle : Course
 idle = record { steps = []; failed = 0; changes = [] }
 
 -- one course and then another
-abbrev pub joined : Course → Course → Course
-joined a b = record { steps = a.steps ++ b.steps; failed = a.failed + b.failed; changes = a.changes ++ b.changes }
+abbrev pub joined_courses : Course → Course → Course
+joined_courses a b =
+    record { steps = a.steps ++ b.steps; failed = a.failed + b.failed; changes = a.changes ++ b.changes }
 
 -- a change, and nothing else
-abbrev pub changing : Change → Course
-changing change = record { steps = []; failed = 0; changes = change ∷ [] }
+abbrev pub course_of_change : Change → Course
+course_of_change change = record { steps = []; failed = 0; changes = change ∷ [] }
 
 -- a line for which the argument fails
-abbrev pub failing : Step → Course
-failing step = record { steps = step ∷ []; failed = 1; changes = [] }
+abbrev pub course_of_failure : Step → Course
+course_of_failure step = record { steps = step ∷ []; failed = 1; changes = [] }
 
 -- the state after several changes, one after the other
 abbrev pub apply_all : List Change → State → State
@@ -76,4 +77,4 @@ apply_all (c ∷ cs) s = apply_all cs (apply c s)
 -- each argument in turn, by its place: each begins with the state that the changes of those before it leave
 abbrev pub in_turn : {X : Type 0} → (State → ℕ → X → Course) → State → ℕ → List X → Course
 in_turn each s j [] = idle
-in_turn each s j (x ∷ xs) = joined (each s j x) (in_turn each (apply_all (each s j x).changes s) (j + 1) xs)
+in_turn each s j (x ∷ xs) = joined_courses (each s j x) (in_turn each (apply_all (each s j x).changes s) (j + 1) xs)

@@ -2,8 +2,8 @@
 use Rattle.std.proofs.Common.{◌≡◌, Option, Some, None, Result, Ok, Err, false, refl, arith}
 use Rattle.std.specs.Prelude.{IsTrue, IfSome}
 use Rattle.rpm_outside.specs.declared.disk.Disk as disk
-use Rattle.rpm_exercise.proofs.Vocabulary.{Asks, cause_then, Database, DiskFault, Halt, HasRows, Idx, is_broken, IsAskable, IsOfAsking, IsOfReading}
-use Rattle.rpm_exercise.proofs.Vocabulary.{LooksAt, PickFault, reads_on, Runs, runs_looks, runs_none, SameFiles, stop_of}
+use Rattle.rpm_exercise.proofs.Vocabulary.{ExerciseQuestion, cause_then, Database, DiskFault, Halt, HasKeptRows, Idx, is_broken, IsAskable, IsOfAsking, IsOfQuestion}
+use Rattle.rpm_exercise.proofs.Vocabulary.{OnlyReadsFile, PickFault, reads_on, Runs, runs_looks, runs_none, SameFiles, stop_of}
 use Rattle.rpm_select.specs.declared.picked.PickFault.TheVariants as pick
 use Rattle.rpm_effects.specs.declared.tally.Halt.TheVariants as halt
 
@@ -12,7 +12,7 @@ at_disk (Ok x) is = absurd cc
 at_disk (Err pick.DiskFault) is = refl
 at_disk (Err others) is = absurd cc
 
-of_reading : {X : Type 0} (r : Result X PickFault) → is_broken r ≡ false → IfSome (stop_of r) IsOfReading
+of_reading : {X : Type 0} (r : Result X PickFault) → is_broken r ≡ false → IfSome (stop_of r) IsOfQuestion
 of_reading (Ok x) sound = tt
 of_reading (Err (pick.BadIndex unit)) sound = absurd cc
 of_reading (Err pick.DiskFault) sound = tt
@@ -25,8 +25,8 @@ of_asking (Err others) = tt
 
 module _ {D : Type 0} (d : disk.Ghosts D) where
   -- a call of a picker
-  pub asks_call : {X : Type 0} (r : Result X PickFault) {a b : D} {db : Database} → (IsTrue d.tells → HasRows d a db → is_broken r ≡ false)
-      → Runs d SameFiles a b → DiskFault d (r ≡ Err pick.DiskFault) a b → Asks d a b db (stop_of r)
+  pub asks_call : {X : Type 0} (r : Result X PickFault) {a b : D} {db : Database} → (IsTrue d.tells → HasKeptRows d a db → is_broken r ≡ false)
+      → Runs d SameFiles a b → DiskFault d (r ≡ Err pick.DiskFault) a b → ExerciseQuestion d a b db (stop_of r)
   asks_call r sound runs cause = record {
     lawful = λ told rows. of_reading r (sound told rows);
     kinds = of_asking r;
@@ -34,11 +34,11 @@ module _ {D : Type 0} (d : disk.Ghosts D) where
     disk = record { later = cause.later; rose = λ is. cause.rose (at_disk r is) };
   }
 
-  pub looks_index : {a b : D} → LooksAt d Idx a b → Runs d SameFiles a b
+  pub looks_index : {a b : D} → OnlyReadsFile d Idx a b → Runs d SameFiles a b
   looks_index {a = a} {b = b} = runs_looks d SameFiles (λ f. refl) Idx _ a b refl
 
   -- nothing was asked
-  pub asks_none : ((x : D) → d.follows x x) → (at : D) (db : Database) → Asks d at at db None
+  pub asks_none : ((x : D) → d.follows x x) → (at : D) (db : Database) → ExerciseQuestion d at at db None
   asks_none stays at db = record {
     lawful = λ told rows. tt;
     kinds = tt;
@@ -46,9 +46,10 @@ module _ {D : Type 0} (d : disk.Ghosts D) where
     disk = record { later = omega arith; rose = λ is. absurd cc };
   }
 
-  module _ {a b : D} {db : Database} (first : Asks d a b db None) where
+  module _ {a b : D} {db : Database} (first : ExerciseQuestion d a b db None) where
     -- a question after others
-    pub asks_then : ((x y z : D) → d.follows x y → d.follows y z → d.follows x z) → {c : D} {stop : Option Halt} → Asks d b c db stop → Asks d a c db stop
+    pub asks_then : ((x y z : D) → d.follows x y → d.follows y z → d.follows x z) → {c : D} {stop : Option Halt} → ExerciseQuestion d b c db stop
+        → ExerciseQuestion d a c db stop
     asks_then trans {c = c} next = record {
       lawful = λ told rows. next.lawful told (rw (first.runs.reads_as told) rows);
       kinds = next.kinds;
@@ -57,7 +58,7 @@ module _ {D : Type 0} (d : disk.Ghosts D) where
     }
 
     -- and then there was no memory
-    pub asks_full : Asks d a b db (Some halt.NoMemory)
+    pub asks_full : ExerciseQuestion d a b db (Some halt.NoMemory)
     asks_full = record { lawful = λ told rows. tt; kinds = tt; runs = first.runs; disk = record { later = first.disk.later; rose = λ is. absurd cc } }
 
     -- it can be asked further

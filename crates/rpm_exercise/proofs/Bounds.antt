@@ -1,7 +1,7 @@
 -- How long the data are that are laid out.
 use Rattle.std.proofs.Common.{◌≡◌, ℕ, ◌+◌, ◌%◌, ◌-◌, ◌^◌, ◌<◌, ◌≤◌, List, [], ◌∷◌, ◌++◌, length, replicate, sym, subst, arith, length-append}
 use Rattle.std.specs.Prelude.{codes}
-use Rattle.rpm_exercise.proofs.Vocabulary.{alignment, bytes_in, data_from, decimal, end_of, Form, generated, Item, next_multiple_of, numbered, offset_of}
+use Rattle.rpm_exercise.proofs.Vocabulary.{alignment, entry_bytes, data_from, decimal, end_of_data, Form, generated_items, Item, next_multiple_of, numbered_word, offset_of}
 use Rattle.rpm_exercise.proofs.Vocabulary.{package_items, version}
 use Rattle.std.proofs.lemmas.Fmt.{length-decimal-le}
 use Rattle.std.proofs.lemmas.List.{length-replicate}
@@ -18,27 +18,27 @@ gap at e = gap_of at e.form
 
 with_gaps : List Item → ℕ
 with_gaps [] = 0
-with_gaps (e ∷ es) = 8 + length (bytes_in e) + with_gaps es
+with_gaps (e ∷ es) = 8 + length (entry_bytes e) + with_gaps es
 
 data_within : (at : ℕ) (es : List Item) → length (data_from at es) ≤ with_gaps es
 unfolding data_from with_gaps
 data_within at [] = omega arith
 data_within at (e ∷ es) =
     let before = gap at e in
-    let behind = data_within (end_of at e) es in
+    let behind = data_within (end_of_data at e) es in
     omega (
       arith,
-      length-append (replicate (offset_of at e - at) 0 ++ bytes_in e) (data_from (end_of at e) es),
-      length-append (replicate (offset_of at e - at) 0) (bytes_in e),
+      length-append (replicate (offset_of at e - at) 0 ++ entry_bytes e) (data_from (end_of_data at e) es),
+      length-append (replicate (offset_of at e - at) 0) (entry_bytes e),
       length-replicate {A = ℕ} (offset_of at e - at) 0,
     )
 
 gaps_within : (name version provided required file : List ℕ) → length name ≤ 24 → length version ≤ 24 → length provided ≤ 24 → length required ≤ 24
     → length file ≤ 24 → with_gaps (package_items name version provided required file) ≤ 512
-unfolding with_gaps bytes_in
+unfolding with_gaps entry_bytes
 gaps_within name version provided required file a b c d e = omega (arith, length-append {A = ℕ})
 
-numbered_within : (word : List ℕ) (n : ℕ) → length word ≤ 3 → n < 2 ^ 32 → length (numbered word n) ≤ 24
+numbered_within : (word : List ℕ) (n : ℕ) → length word ≤ 3 → n < 2 ^ 32 → length (numbered_word word n) ≤ 24
 numbered_within word n short small =
     let digits = length-decimal-le 10 n (omega arith) (omega arith) (omega arith) in
     omega (arith, length-append word (decimal n))
@@ -49,12 +49,12 @@ version_within i m small =
     let last = length-decimal-le 10 (i % 10) (omega arith) (omega arith) (omega arith) in
     omega (arith, length-append (decimal m ++ codes ".") (decimal (i % 10)), length-append (decimal m) (codes "."))
 
-pub generated_within : (i m : ℕ) (es : List Item) → i < 2 ^ 32 → m < 2 ^ 32 → es ≡ generated i m → length (data_from 0 es) ≤ 67108864
+pub generated_within : (i m : ℕ) (es : List Item) → i < 2 ^ 32 → m < 2 ^ 32 → es ≡ generated_items i m → length (data_from 0 es) ≤ 67108864
 generated_within i m es small_i small_m same =
-    let all_data = data_within 0 (generated i m) in
+    let all_data = data_within 0 (generated_items i m) in
     let all =
-    gaps_within (numbered (codes "pkg") i) (version i m) (numbered (codes "cap") (i % 7)) (numbered (codes "cap") ((i + 1) % 7))
-    (numbered (codes "f") i) (numbered_within (codes "pkg") i (omega arith) small_i) (version_within i m small_m)
+    gaps_within (numbered_word (codes "pkg") i) (version i m) (numbered_word (codes "cap") (i % 7)) (numbered_word (codes "cap") ((i + 1) % 7))
+    (numbered_word (codes "f") i) (numbered_within (codes "pkg") i (omega arith) small_i) (version_within i m small_m)
     (numbered_within (codes "cap") (i % 7) (omega arith) (omega arith)) (numbered_within (codes "cap") ((i + 1) % 7) (omega arith) (omega arith))
     (numbered_within (codes "f") i (omega arith) small_i) in
     let P : List Item → Type 0 = λ xs. length (data_from 0 xs) ≤ 67108864 in

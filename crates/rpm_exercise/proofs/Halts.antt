@@ -1,11 +1,11 @@
 -- What stops the exercise, by cases.
 use Rattle.std.proofs.Common.{◌≡◌, ◌≢◌, Bool, true, false, Err, refl}
-use Rattle.rpm_exercise.proofs.Vocabulary.{Database, Halt, is_indexed, is_limit, IsOfAsking, IsOfChanges, IsOfExercise, IsOfReading, IsSpent, IsStop, Units}
+use Rattle.rpm_exercise.proofs.Vocabulary.{Database, Halt, is_indexed, is_limit, IsOfAsking, IsOfChanges, IsOfExercise, IsOfQuestion, IsSpent, IsStop, Units}
 use Rattle.rpm_exercise.proofs.Vocabulary.{WholeTurn}
 use Rattle.rpm_effects.specs.declared.tally.Halt.TheVariants as halt
 
 -- what stops reading is no limit and no broken index
-pub reading_is : (i : Bool) (idx : Units) (h : Halt) → IsOfReading h → (is_limit i h ≡ false) × WholeTurn idx (Err h) × IsOfAsking h
+pub reading_is : (i : Bool) (idx : Units) (h : Halt) → IsOfQuestion h → (is_limit i h ≡ false) × WholeTurn idx (Err h) × IsOfAsking h
 reading_is i idx halt.DiskFault kind = (refl, tt, tt)
 reading_is i idx halt.NoMemory kind = (refl, tt, tt)
 reading_is i idx others kind = absurd kind

@@ -2,10 +2,10 @@
 use Rattle.std.proofs.Common.{true, List, [], ◌∷◌, ◌++◌, Result, Ok, Err, refl, sym, ap, ◌+◌, ℕ}
 use Rattle.std.specs.Prelude.{IsTrue, IfErr}
 use Rattle.rpm_outside.specs.declared.disk.Disk as disk
-use Rattle.rpm_exercise.proofs.Vocabulary.{Change, ChangeFault, counted_went, Database, due, EndedQuietly, Files, GathersOne, GathersThrough, Halt}
-use Rattle.rpm_exercise.proofs.Vocabulary.{halt_of, IsGathering, IsOfChange, IsOfChanges, IsOfIndex, IsOwing, IsSpent, making, none_by, none_gone}
-use Rattle.rpm_exercise.proofs.Vocabulary.{none_went, OwesOn, owing_none, owing_then, plus, quiet_joins, quiet_none, RowChange, state_in}
-use Rattle.rpm_exercise.proofs.Vocabulary.{State, stopped_went, Tally, through_none, WentBy, went_ahead, WentOwing, went_then}
+use Rattle.rpm_exercise.proofs.Vocabulary.{Change, ChangeFault, counted_went, Database, EndedQuietly, Files, GathersOne, GathersThrough, Halt}
+use Rattle.rpm_exercise.proofs.Vocabulary.{halt_of, IsGathering, IsOfChange, IsOfChanges, IsOfIndex, IsSpent, course_of_changes, none_by, none_gone}
+use Rattle.rpm_exercise.proofs.Vocabulary.{none_went, owing_none, owing_then, plus, quiet_joins, quiet_none, RowChange, state_in}
+use Rattle.rpm_exercise.proofs.Vocabulary.{State, stopped_went, Tally, through_none, ProgressBy, went_ahead, ProgressOwing, went_then}
 use Rattle.rpm_db.specs.declared.change_fault.ChangeFault.TheVariants as fault
 use Rattle.rpm_effects.specs.declared.tally.Halt.TheVariants as halt
 
@@ -36,8 +36,8 @@ module _ {D : Type 0} (d : disk.Ghosts D) where
     -- there was no memory
     pub memory_through : (changes : List Change) → GathersThrough d changes at at db db owed owed (Err halt.NoMemory)
     memory_through changes = record {
-      course = stopped_went d (making changes) halt.NoMemory
-          (λ s t ot et o e. none_gone (making changes) _ _ (through_none {ot = ot} {et = et} o e)) (λ i. refl) tt
+      course = stopped_went d (course_of_changes changes) halt.NoMemory
+          (λ s t ot et o e. none_gone (course_of_changes changes) _ _ (through_none {ot = ot} {et = et} o e)) (λ i. refl) tt
           (none_by d stays _ (owing_none d gathering) at db gathering.indexed (Err halt.NoMemory) (λ is. absurd cc));
       spent = tt;
       kinds = (λ is. cc, λ is. cc, λ is. cc);
@@ -54,18 +54,20 @@ module _ {D : Type 0} (d : disk.Ghosts D) where
   -- nothing fails
   pub none_failed : {C A : Type 0} {G : List Change → State → Type 0} {from to : Files} {old new : D} {before after : Database}
       (changes : List Change) (tally : Tally)
-      → WentBy d C A (IsTrue d.tells) G from to old new before after (Ok tally) EndedQuietly (making changes)
-      → WentBy d C A (IsTrue d.tells) G from to old new before after (Ok (record { failed = 0; changes = tally.changes })) EndedQuietly (making changes)
+      → ProgressBy d C A (IsTrue d.tells) G from to old new before after (Ok tally) EndedQuietly (course_of_changes changes)
+      → ProgressBy d C A (IsTrue d.tells) G from to old new before after (Ok (record { failed = 0; changes = tally.changes })) EndedQuietly
+      (course_of_changes changes)
   none_failed changes tally w =
-      counted_went d (making changes) tally (record { failed = 0; changes = tally.changes })
+      counted_went d (course_of_changes changes) tally (record { failed = 0; changes = tally.changes })
       (λ told. ap (λ (n : ℕ). record { failed = n; changes = tally.changes }) (sym (w.ended told true true [] []).failed)) w
 
   module _ (joins : (x y z : D) → d.follows x y → d.follows y z → d.follows x z) {old at new : D} {before db after : Database}
       {owed mid more : RowChange} {xs ys : List Change} {a : Tally} where
     both_through : (r : Result Tally Halt) → GathersThrough d xs old at before db owed mid (Ok a) → GathersThrough d ys at new db after mid more r
-        → WentOwing d (IsTrue d.tells) old new before after owed more (plus a r) EndedQuietly (making (xs ++ ys))
+        → ProgressOwing d (IsTrue d.tells) old new before after owed more (plus a r) EndedQuietly (course_of_changes (xs ++ ys))
     both_through r first second =
-        went_then d joins quiet_joins (owing_then d) (λ owing told rows. owing.owes told rows) (λ owing. owing.stays) (making xs) first.course (making ys) r
+        went_then d joins quiet_joins (owing_then d) (λ owing told rows. owing.owes told rows) (λ owing. owing.stays) (course_of_changes xs) first.course
+        (course_of_changes ys) r
         second.course
 
     -- some changes and then others
@@ -79,4 +81,4 @@ module _ {D : Type 0} (d : disk.Ghosts D) where
   pub through_ahead : {old new : D} {before after : Database} {owed more : RowChange} {xs : List Change} (ys : List Change) {h : Halt}
       → GathersThrough d xs old new before after owed more (Err h) → GathersThrough d (xs ++ ys) old new before after owed more (Err h)
   through_ahead {xs = xs} ys went =
-      record { course = went_ahead d quiet_joins.ahead (making xs) (making ys) went.course; spent = went.spent; kinds = went.kinds }
+      record { course = went_ahead d quiet_joins.ahead (course_of_changes xs) (course_of_changes ys) went.course; spent = went.spent; kinds = went.kinds }

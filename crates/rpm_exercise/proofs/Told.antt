@@ -3,13 +3,13 @@ use Rattle.std.proofs.Common.{Some, None, Ok, Err, true}
 use Rattle.std.specs.Prelude.{IsTrue}
 use Rattle.rpm_outside.specs.declared.disk.Disk as disk
 use Rattle.rpm_outside.specs.declared.sink.Sink as sink
-use Rattle.rpm_exercise.proofs.Vocabulary.{Asks, Buffered, Course, Database, EndedOnOut, EndedQuietly, Halt, HasRows, left_read, other_stop, out_gone, state_in}
-use Rattle.rpm_exercise.proofs.Vocabulary.{stopped_by, Tally, Went, whole_bad}
+use Rattle.rpm_exercise.proofs.Vocabulary.{ExerciseQuestion, Buffered, Course, Database, EndedOnOut, EndedQuietly, Halt, HasKeptRows, left_read, other_stop, out_gone, state_in}
+use Rattle.rpm_exercise.proofs.Vocabulary.{stopped_by, Tally, ProgressInBoth, whole_bad}
 use Rattle.rpm_exercise.proofs.Halts.{asking_is, reading_is}
 
 module _ {D : Type 0} (d : disk.Ghosts D) (joins : (x y z : D) → d.follows x y → d.follows y z → d.follows x z) {old at new : D} {before db : Database}
-    {tally : Tally} {course : Course} (went : Went d (IsTrue d.tells) old at before db (Ok tally) EndedQuietly course) where
-  pub read_done : Asks d at new db None → Went d (IsTrue d.tells) old new before db (Ok tally) EndedQuietly course
+    {tally : Tally} {course : Course} (went : ProgressInBoth d (IsTrue d.tells) old at before db (Ok tally) EndedQuietly course) where
+  pub read_done : ExerciseQuestion d at new db None → ProgressInBoth d (IsTrue d.tells) old new before db (Ok tally) EndedQuietly course
   read_done said = record {
     ended = λ told. rw (said.runs.reads_as told) (went.ended told);
     limits = λ told i rows. rw (said.runs.reads_as told) (went.limits told i rows);
@@ -20,8 +20,8 @@ module _ {D : Type 0} (d : disk.Ghosts D) (joins : (x y z : D) → d.follows x y
   }
 
   -- or reading stopped it, and nothing was told
-  pub read_stopped : {S : Type 0} (of : sink.Ghosts S) (x : Buffered S) (all : Course) {h : Halt} → (IsTrue d.tells → HasRows d at db)
-      → Asks d at new db (Some h) → Went d (IsTrue d.tells) old new before db (Err h) (EndedOnOut of x x) all
+  pub read_stopped : {S : Type 0} (of : sink.Ghosts S) (x : Buffered S) (all : Course) {h : Halt} → (IsTrue d.tells → HasKeptRows d at db)
+      → ExerciseQuestion d at new db (Some h) → ProgressInBoth d (IsTrue d.tells) old new before db (Err h) (EndedOnOut of x x) all
   read_stopped of x all {h = h} rows said = record {
     ended = λ told et e.
         let kind = asking_is db h said.kinds in

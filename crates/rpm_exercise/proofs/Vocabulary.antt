@@ -1,48 +1,49 @@
 -- The words of proofs, from one place.
 pub use Rattle.rpm_effects.specs.Progress.{halt_of}
-pub use Rattle.rpm_change.specs.Went.{WholeTurn, IsOwing, Went, WentBy, WentOwing}
-pub use Rattle.rpm_exercise.specs.Headers.{numbered, generated, package_items, version}
+pub use Rattle.rpm_change.specs.Progress.{WholeTurn, IsOwing, ProgressInBoth, ProgressBy, ProgressOwing}
+pub use Rattle.rpm_exercise.specs.Headers.{numbered_word, generated_items, package_items, version}
 pub use Rattle.rpm_change.specs.Limits.{is_limit}
 pub use Rattle.rpm_change.specs.Singles.{GathersOne, IsOfChange, IsSpent}
-pub use Rattle.rpm_effects.specs.Steps.{apply_all, Course, whole}
+pub use Rattle.rpm_effects.specs.Steps.{apply_all, Course, whole_step}
 pub use Rattle.rpm_effects.specs.Shown.{EndedOnOut, EndedQuietly}
 pub use Rattle.rpm_effects.specs.declared.tally.Halt.{Halt}
 pub use Rattle.rpm_effects.specs.declared.tally.Tally.{Tally}
-pub use Rattle.rpm_effects.specs.inner.Courses.{none_gone, plus, stopped_by}
-pub use Rattle.rpm_effects.specs.inner.Reaching.{through_none}
-pub use Rattle.rpm_change.specs.inner.Going.{counted_went, none_went, stopped_went, went_ahead, went_then, whole_bad}
-pub use Rattle.rpm_change.specs.inner.Parts.{Going, going_begin, going_end, going_more, going_stop}
-pub use Rattle.rpm_change.specs.inner.Handing.{err_is}
-pub use Rattle.rpm_effects.specs.inner.Joins.{out_gone, quiet_joins, quiet_none, quiet_stopped, cause_then}
-pub use Rattle.rpm_change.specs.inner.Leaving.{current_left, none_by, remade_log, remade_then, state_remade}
-pub use Rattle.rpm_change.specs.inner.Owing.{list_settled, list_stopped, list_unsettled, owing_begun, owing_none, owing_then}
-pub use Rattle.rpm_change.specs.inner.Reading.{left_read, looks_run, reads_on}
-pub use Rattle.rpm_change.specs.inner.Single.{other_stop}
-pub use Rattle.rpm_change.specs.inner.Telling.{told_all, told_none, told_part}
+pub use Rattle.rpm_effects.specs.laws.Courses.{none_gone, plus, stopped_by}
+pub use Rattle.rpm_effects.specs.laws.Reaching.{through_none}
+pub use Rattle.rpm_change.specs.laws.Going.{counted_went, none_went, stopped_went, went_ahead, went_then, whole_bad}
+pub use Rattle.rpm_change.specs.laws.Parts.{Going, going_begin, going_end, going_more, going_stop}
+pub use Rattle.rpm_change.specs.laws.Handing.{err_is}
+pub use Rattle.rpm_effects.specs.laws.Joins.{out_gone, quiet_joins, quiet_none, quiet_stopped, cause_then}
+pub use Rattle.rpm_change.specs.laws.Leaving.{current_left, none_by, remade_log, remade_then, state_remade}
+pub use Rattle.rpm_change.specs.laws.Owing.{list_durable, list_stopped, list_unsettled, owing_begun, owing_none, owing_then}
+pub use Rattle.rpm_change.specs.laws.Reading.{left_read, looks_run, reads_on}
+pub use Rattle.rpm_change.specs.laws.Single.{other_stop}
+pub use Rattle.rpm_change.specs.laws.Telling.{told_all, told_none, told_part}
 pub use Rattle.rpm_db.specs.Asked.{IsAskable}
 pub use Rattle.rpm_db.specs.Changed.{IsReady}
 pub use Rattle.rpm_db.specs.Changes.{Change, next}
 pub use Rattle.rpm_db.specs.Database.{Database, is_indexed}
-pub use Rattle.rpm_db.specs.Frame.{packages_in, room, Runs, state_in}
-pub use Rattle.rpm_db.specs.FromOne.{from_one}
+pub use Rattle.rpm_db.specs.Frame.{packages_in, Runs, state_in}
+pub use Rattle.rpm_db.specs.Database.{store_of}
+pub use Rattle.rpm_db.specs.laws.FromOne.{from_one}
 pub use Rattle.rpm_db.specs.Gathering.{due, IsGathering, OwesOn}
 pub use Rattle.rpm_db.specs.Refusals.{IsOfIndex}
-pub use Rattle.rpm_db.specs.Running.{runs_looks, runs_none}
+pub use Rattle.rpm_db.specs.laws.Running.{runs_looks, runs_none}
 pub use Rattle.rpm_db.specs.Runs.{SameFiles}
 pub use Rattle.rpm_db.specs.State.{above, Package, State}
 pub use Rattle.rpm_db.specs.declared.change_fault.ChangeFault.{ChangeFault}
 pub use Rattle.rpm_db.specs.declared.netting.RowChange.{RowChange}
-pub use Rattle.rpm_exercise.specs.Endings.{IsOfAsking, IsOfExercise, IsOfReading, stop_of}
-pub use Rattle.rpm_exercise.specs.Exercised.{capability_line, capability_lines, capability_named, count_line, digest_line, exercise, exported, picked}
+pub use Rattle.rpm_exercise.specs.Endings.{IsOfAsking, IsOfExercise, IsOfQuestion, stop_of}
+pub use Rattle.rpm_exercise.specs.Exercised.{capability_line, capability_lines, capability_named, count_line, digest_line, exercise, exported_bytes, picked_count}
 unfoldable pub use Rattle.rpm_exercise.specs.Exercised.{summary}
-pub use Rattle.rpm_exercise.specs.Ready.{Asks, GathersThrough, IsStop}
-pub use Rattle.rpm_exercise.specs.Rounds.{changes_after, IsOfChanges, making, round_changes, turn}
+pub use Rattle.rpm_exercise.specs.Ready.{ExerciseQuestion, GathersThrough, IsStop}
+pub use Rattle.rpm_exercise.specs.Rounds.{changes_after, IsOfChanges, course_of_changes, round_changes, round_turn}
 unfoldable pub use Rattle.rpm_exercise.specs.Rounds.{changes}
 pub use Rattle.rpm_outside.specs.Files.{Files, Units}
-pub use Rattle.rpm_outside.specs.Frame.{DiskFault, LooksAt}
+pub use Rattle.rpm_outside.specs.Frame.{DiskFault, OnlyReadsFile}
 pub use Rattle.rpm_outside.specs.declared.buffered.Buffered.{Buffered}
 pub use Rattle.rpm_outside.specs.declared.disk.File.TheVariants.{Idx}
-pub use Rattle.rpm_select.specs.Frame.{HasRows}
+pub use Rattle.rpm_select.specs.Frame.{HasKeptRows}
 pub use Rattle.rpm_select.specs.Picks.{entry_in, is_broken, number_in}
 pub use Rattle.rpm_select.specs.Reach.{Serves}
 pub use Rattle.rpm_select.specs.Selections.{picks}
@@ -50,7 +51,7 @@ pub use Rattle.rpm_select.specs.declared.picked.PickFault.{PickFault}
 pub use Rattle.rpm_select.specs.declared.picked.Picked.{Picked}
 pub use Rattle.rpm_select.specs.declared.picked.Picked.TheVariants.{Bad, Good}
 pub use Rattle.rpm_select.specs.declared.selection.Selection.{Selection}
-pub use Rattle.rpm_select.specs.inner.Rising.{next_picked, picks_from_one}
+pub use Rattle.rpm_select.specs.laws.Rising.{next_picked, picks_from_one}
 unfoldable pub use Rattle.rpm_version.specs.Capability.{capability, words}
 pub use Rattle.sha2.specs.Hashers.{Holds256}
 pub use Rattle.sha2.specs.Sha256.{sha256}
@@ -60,8 +61,8 @@ pub use Rattle.std.specs.Ordering.{nat_cmp}
 pub use Rattle.std.specs.String.{string_bytes}
 pub use Rattle.rpm_header.specs.Build.{IsText}
 pub use Rattle.rpm_header.specs.Header.{Item, alignment}
-unfoldable pub use Rattle.rpm_header.specs.Laid.{bytes_in, data_from, offset_of}
-pub use Rattle.rpm_header.specs.Laid.{end_of}
+unfoldable pub use Rattle.rpm_header.specs.Laid.{entry_bytes, data_from, offset_of}
+pub use Rattle.rpm_header.specs.Laid.{end_of_data}
 pub use Rattle.rpm_header.specs.declared.form.Form.{Form}
 pub use Rattle.std.specs.Fmt.{decimal}
 pub use Rattle.std.specs.Int.{next_multiple_of}

@@ -22,10 +22,10 @@ stop_of (Ok x) = None
 stop_of (Err fault) = Some (pick_halt fault)
 
 -- what asking a sound index is stopped by
-abbrev pub IsOfReading : Halt → Type 0
-IsOfReading halt.DiskFault = Unit {0}
-IsOfReading halt.NoMemory = Unit {0}
-IsOfReading others = ⊥
+abbrev pub IsOfQuestion : Halt → Type 0
+IsOfQuestion halt.DiskFault = Unit {0}
+IsOfQuestion halt.NoMemory = Unit {0}
+IsOfQuestion others = ⊥
 
 -- a halt is one of a question, which may blame any unit of the index
 abbrev pub IsOfAsking : Halt → Type 0
@@ -54,7 +54,7 @@ IsRefused IsFirst (Err (NotEmpty number)) = IsFirst (Some number)
 
 -- a property holds of files whose index was rebuilt of these: it has the units that it had, or those that its rows
 -- need
-pub record Renewed (needed : ℕ) (P : Files → Type 0) (old : Files) : Type 0 where
+pub record HoldsAfterRebuild (needed : ℕ) (P : Files → Type 0) (old : Files) : Type 0 where
   pub mid : Files
   pub same : mid.pkg ≡ old.pkg
   pub made : ReachesMade needed old.idx mid.idx

@@ -11,31 +11,32 @@ use Rattle.rpm_db.specs.State.{State, Package, Good, Bad}
 use Rattle.rpm_select.specs.declared.selection.Selection.{Selection}
 use Rattle.rpm_select.specs.declared.selection.Selection.TheVariants as question
 use Rattle.rpm_select.specs.Selections.{picks}
-use Rattle.rpm_exercise.specs.Headers.{numbered}
-use Rattle.rpm_effects.specs.Steps.{Course, ToOut, whole, apply_all}
+use Rattle.rpm_exercise.specs.Headers.{numbered_word}
+use Rattle.rpm_effects.specs.Steps.{Course, ToOut, whole_step, apply_all}
 use Rattle.rpm_exercise.specs.declared.survey.Found.{Found}
 use Rattle.rpm_exercise.specs.Rounds.{changes}
 
 -- ---- the export
 
 -- a Good header as it is exported, after the magic; of a Bad one nothing goes out
-abbrev pub exported : ℕ × Package → List ℕ
-exported (n, Good bytes) = magic ++ bytes
-exported (n, Bad) = []
+abbrev pub exported_bytes : ℕ × Package → List ℕ
+exported_bytes (n, Good bytes) = magic ++ bytes
+exported_bytes (n, Bad) = []
 
 -- all packages, by rising number
 abbrev pub export_bytes : FinMap nat_cmp Package → List ℕ
-export_bytes packages = flat_map exported (picks packages question.All)
+export_bytes packages = flat_map exported_bytes (picks packages question.All)
 
 -- ---- a question
 
 -- how many packages a question picks
-abbrev pub picked : FinMap nat_cmp Package → Selection → ℕ
-picked packages sel = length (picks packages sel)
+abbrev pub picked_count : FinMap nat_cmp Package → Selection → ℕ
+picked_count packages sel = length (picks packages sel)
 
 -- what is found of it: how many it picks, and the digest of what an export of these would write
 abbrev pub IsFound : FinMap nat_cmp Package → Selection → Found → Type 0
-IsFound packages sel found = (found.count ≡ picked packages sel) × (found.digest ≡ sha256 (flat_map exported (picks packages sel)))
+IsFound packages sel found = (found.count ≡ picked_count packages sel)
+    × (found.digest ≡ sha256 (flat_map exported_bytes (picks packages sel)))
 
 -- ---- the lines
 
@@ -50,7 +51,8 @@ capability_named name = record { name = name; flags = 0; evr = [] }
 -- the seven capabilities, and how many packages provide each
 abbrev pub capability_line : FinMap nat_cmp Package → ℕ → List ℕ
 capability_line packages c =
-    count_line (numbered (codes "cap") c) (picked packages (question.Provides (capability_named (numbered (codes "cap") c))))
+    count_line (numbered_word (codes "cap") c) (picked_count packages
+    (question.Provides (capability_named (numbered_word (codes "cap") c))))
 
 -- one line each, by their numbers from 0 to 6
 abbrev pub capability_lines : FinMap nat_cmp Package → List ℕ
@@ -66,14 +68,15 @@ digest_line packages = digest_text (sha256 (export_bytes packages))
 
 -- how many packages there are, how many provide each capability, and the digest
 unfoldable pub summary : FinMap nat_cmp Package → List ℕ
-summary packages = count_line (codes "packages") (picked packages question.All) ++ (capability_lines packages ++ digest_line packages)
+summary packages = count_line (codes "packages") (picked_count packages question.All)
+    ++ (capability_lines packages ++ digest_line packages)
 
 -- ---- the course
 
 -- an exercise makes its changes, and then tells in one step of the packages that they leave
 abbrev pub exercise : ℕ → State → Course
 exercise n s = record {
-  steps = ToOut (whole 0) (summary (apply_all (changes n s) s).packages) ∷ [];
+  steps = ToOut (whole_step 0) (summary (apply_all (changes n s) s).packages) ∷ [];
   failed = 0;
   changes = changes n s;
 }

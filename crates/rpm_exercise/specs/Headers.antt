@@ -5,8 +5,8 @@ use Rattle.rpm_header.specs.Header.{Item}
 use Rattle.rpm_header.specs.Build.{numbers_item, text_item, texts_item}
 
 -- a word and a number
-abbrev pub numbered : List ℕ → ℕ → List ℕ
-numbered word n = word ++ decimal n
+abbrev pub numbered_word : List ℕ → ℕ → List ℕ
+numbered_word word n = word ++ decimal n
 
 -- package i of the exercise has this version, with the leading number m
 abbrev pub version : ℕ → ℕ → List ℕ
@@ -36,7 +36,8 @@ required_items capability =
 -- a package of the exercise has this one file
 abbrev pub file_items : List ℕ → List Item
 file_items name =
-    texts_item 1117 form.Texts (name ∷ []) ∷ numbers_item 1116 form.Int32 (0 ∷ []) ∷ texts_item 1118 form.Texts (codes "/opt/" ∷ []) ∷ []
+    texts_item 1117 form.Texts (name ∷ []) ∷ numbers_item 1116 form.Int32 (0 ∷ [])
+    ∷ texts_item 1118 form.Texts (codes "/opt/" ∷ []) ∷ []
 
 -- a package of the exercise has these entries: its name, its version, the capability that it provides, the one that
 -- it requires, its file
@@ -45,7 +46,8 @@ package_items name version provided required file =
     identity_items name version ++ provided_items name provided version ++ required_items required ++ file_items file
 
 -- the header i of the exercise with the leading number m; there are seven capabilities
-abbrev pub generated : ℕ → ℕ → List Item
-generated i m =
-    package_items (numbered (codes "pkg") i) (version i m) (numbered (codes "cap") (i % 7)) (numbered (codes "cap") ((i + 1) % 7))
-    (numbered (codes "f") i)
+abbrev pub generated_items : ℕ → ℕ → List Item
+generated_items i m =
+    package_items (numbered_word (codes "pkg") i) (version i m) (numbered_word (codes "cap") (i % 7))
+    (numbered_word (codes "cap") ((i + 1) % 7))
+    (numbered_word (codes "f") i)

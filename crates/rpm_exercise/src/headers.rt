@@ -1,7 +1,7 @@
 //! The headers that the exercise makes.
 
 ghost use Rattle.std.specs.Prelude.{◌≡◌, ◌++◌, ◌∷◌, [], ◌<◌, ◌≤◌, ◌%◌, ◌+◌, length, codes, false, IfOk, OnOk, Ok};
-ghost use Rattle.rpm_exercise.specs.Prelude.{data_of, file_items, generated, header, identity_items, IsText, laid, max_data, max_entries, numbered, provided_items, required_items, version};
+ghost use Rattle.rpm_exercise.specs.Prelude.{data_of, file_items, generated_items, header, identity_items, IsText, laid_out, max_data, max_entries, numbered_word, provided_items, required_items, version};
 
 use itoa::Buffer;
 use rpm_header::{BuildFault, Builder, Form, TextList};
@@ -11,7 +11,7 @@ use std::alloc::{AllocError, Global};
 #[tactic(auto, using(crate::proofs::Texts::numbered_text))]
 fn numbered(alloc: Global, word: &[u8], n: u32) -> Result<Vec<u8>, AllocError>
     requires { IsText word.now }
-    ensures value { IfOk result (λ text. text.items ≡ numbered word.now n) }
+    ensures value { IfOk result (λ text. text.items ≡ numbered_word word.now n) }
     ensures text { IfOk result (λ text. IsText text.items) }
 {
     let mut digits = Buffer::new();
@@ -128,7 +128,7 @@ fn push_file(alloc: Global, builder: &mut Builder, name: &[u8]) -> Result<(), Al
 /// The entries of package `i` with the leading number `m`.
 fn entries(alloc: Global, i: u32, m: u32) -> Result<Builder, AllocError>
     requires { i < 4294967295 }
-    ensures { IfOk result (λ builder. builder ≡ generated i m) }
+    ensures { IfOk result (λ builder. builder ≡ generated_items i m) }
 {
     let name = numbered(alloc, b"pkg", i)?;
     let version = version(alloc, i, m)?;
@@ -147,7 +147,7 @@ fn entries(alloc: Global, i: u32, m: u32) -> Result<Builder, AllocError>
 fn lay_out(alloc: Global, builder: &Builder) -> Result<Vec<u8>, AllocError>
     requires entries { length builder.now ≤ max_entries }
     requires section { length (data_of false builder.now) ≤ max_data }
-    ensures laid { IfOk result (λ blob. blob.items ≡ laid false builder.now) }
+    ensures laid { IfOk result (λ blob. blob.items ≡ laid_out false builder.now) }
     ensures again { IfOk result (λ blob. header blob.items ≡ Ok (record { blob = blob.items; entries = builder.now })) }
 {
     match builder.finish(alloc, false) {
@@ -168,8 +168,8 @@ fn lay_out(alloc: Global, builder: &Builder) -> Result<Vec<u8>, AllocError>
 #[tactic(auto, using(crate::proofs::Bounds::generated_within))]
 pub fn generated(alloc: Global, i: u32, m: u32) -> Result<Vec<u8>, AllocError>
     requires { i < 4294967295 }
-    ensures laid { IfOk result (λ blob. blob.items ≡ laid false (generated i m)) }
-    ensures again { IfOk result (λ blob. header blob.items ≡ Ok (record { blob = blob.items; entries = generated i m })) }
+    ensures laid { IfOk result (λ blob. blob.items ≡ laid_out false (generated_items i m)) }
+    ensures again { IfOk result (λ blob. header blob.items ≡ Ok (record { blob = blob.items; entries = generated_items i m })) }
 {
     let builder = entries(alloc, i, m)?;
     lay_out(alloc, &builder)

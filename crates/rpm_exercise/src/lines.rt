@@ -1,7 +1,7 @@
 //! The lines that the exercise tells.
 
 ghost use Rattle.std.specs.Prelude.{◌≡◌, ◌++◌, ◌<◌, codes, Ok, OnOk, IfOk};
-ghost use Rattle.rpm_exercise.specs.Prelude.{capability, capability_named, count_line, digest_text, numbered, string_bytes};
+ghost use Rattle.rpm_exercise.specs.Prelude.{capability, capability_named, count_line, digest_text, numbered_word, string_bytes};
 
 use hex::encode;
 use itoa::Buffer;
@@ -31,7 +31,7 @@ pub fn push_digest(alloc: Global, text: &mut Vec<u8>, digest: &[u8; 32]) -> Resu
 /// The name of one of the seven capabilities.
 pub fn capability_name(alloc: Global, c: u32) -> Result<String, AllocError>
     requires { c < 7 }
-    ensures value { IfOk result (λ name. string_bytes name ≡ numbered (codes "cap") c) }
+    ensures value { IfOk result (λ name. string_bytes name ≡ numbered_word (codes "cap") c) }
     ensures named { IfOk result (λ name. capability (string_bytes name) ≡ Ok (capability_named (string_bytes name))) }
 {
     format!(in alloc; "cap{c}")

@@ -1,7 +1,7 @@
 //! The changes of the exercise, round by round.
 
 ghost use Rattle.std.specs.Prelude.{◌≡◌, ◌+◌, ◌<◌, ◌≤◌, [], ◌∷◌, true, IfOk, IfErr};
-ghost use Rattle.rpm_exercise.specs.Prelude.{change_at, changes, changes_after, GathersThrough, holds, IsGathering, IsHeld, IsReady, made, round_changes, state_in, turn, WentThrough};
+ghost use Rattle.rpm_exercise.specs.Prelude.{change_at, changes, changes_after, GathersThrough, holds, IsGathering, HasTarget, IsReady, made_blob, round_changes, state_in, round_turn, ChangesProgress};
 
 use crate::headers::generated;
 use rpm_change::{put_within, take_within};
@@ -33,8 +33,8 @@ fn put_one<D: Disk>(
 ) -> Result<Tally, Halt>
     requires small { i < 4294967295 }
     requires gathering { IsGathering D.Disk disk.old db.old batch.old }
-    requires held { IsHeld number db.old }
-    ensures went { GathersThrough D.Disk (change_at number (made i m) ∷ []) disk.old disk.new db.old db.new batch.old batch.new result }
+    requires held { HasTarget number db.old }
+    ensures went { GathersThrough D.Disk (change_at number (made_blob i m) ∷ []) disk.old disk.new db.old db.new batch.old batch.new result }
     ensures few { IfOk result (λ tally. tally.changes ≤ 1) }
 {
     let blob = generated(alloc, i, m)?;
@@ -65,7 +65,7 @@ fn take_turn<D: Disk>(
 ) -> Result<Tally, Halt>
     requires small { i < 4294967295 }
     requires gathering { IsGathering D.Disk disk.old db.old batch.old }
-    ensures went { GathersThrough D.Disk (turn round b i) disk.old disk.new db.old db.new batch.old batch.new result }
+    ensures went { GathersThrough D.Disk (round_turn round b i) disk.old disk.new db.old db.new batch.old batch.new result }
     ensures few { IfOk result (λ tally. tally.changes ≤ 1) }
 {
     match round {
@@ -161,7 +161,7 @@ fn go_rounds<D: Disk>(
 pub fn change_all<D: Disk>(alloc: Global, db: &mut Db, disk: &mut D, n: u32) -> Result<Tally, Halt>
     requires few { n ≤ 100000 }
     requires ready { IsReady D.Disk disk.old db.old }
-    ensures { WentThrough D.Disk (changes n (state_in D.Disk disk.old db.old)) disk.old disk.new db.old db.new result }
+    ensures { ChangesProgress D.Disk (changes n (state_in D.Disk disk.old db.old)) disk.old disk.new db.old db.new result }
 {
     let b = db.next_number().saturating_sub(1);
     let mut batch = Batch::begin(alloc, db);

@@ -1,7 +1,7 @@
 //! The exercise as a whole.
 
 ghost use Rattle.std.specs.Prelude.{◌≡◌, ℕ, ◌≤◌, Bool, List, true, IsTrue, Ok, Err, OnOk, IfOk, IfErr};
-ghost use Rattle.rpm_exercise.specs.Prelude.{changes, DiskFault, CourseProgress, EndedOnOut, exercise, Hand, is_indexed, IsCurrent, IsNext, IsOfReading, IsReady, IsRefused, IsStop, LimitsTurn, OnceBegun, ReachesMade, Remade, Renewed, room, Runs, SameLog, state_in, units_needed, Went, with_out};
+ghost use Rattle.rpm_exercise.specs.Prelude.{changes, DiskFault, CourseProgress, EndedOnOut, exercise, Hand, is_indexed, IsCurrent, IsNext, IsOfQuestion, IsReady, IsRefused, IsStop, LimitsTurn, OnceBegun, ReachesMade, Remade, HoldsAfterRebuild, store_of, Runs, SameLog, state_in, units_needed, ProgressInBoth, with_out};
 ghost use Rattle.rpm_db.specs.Database as database;
 
 use crate::rounds::change_all;
@@ -30,7 +30,7 @@ fn change_and_tell<D: Disk, O: Sink + Drop>(
 ) -> Result<Tally, Halt>
     requires few { n ≤ 100000 }
     requires current { IsCurrent D.Disk disk.old db.old }
-    ensures went { Went D.Disk (IsTrue D.tells) disk.old disk.new db.old db.new result
+    ensures went { ProgressInBoth D.Disk (IsTrue D.tells) disk.old disk.new db.old db.new result
         (EndedOnOut O.Sink out.old out.new) (exercise n (state_in D.Disk disk.old db.old)) }
     ensures stop { IfErr result (IsStop db.new) }
     ensures out { Hand O.Sink (result ≡ Err Halt.OutFault) out.old out.new }
@@ -47,12 +47,12 @@ fn change_and_tell<D: Disk, O: Sink + Drop>(
 /// Makes the index anew, whatever it was. There are no packages, so it has room.
 fn renew<D: Disk>(alloc: Global, db: &mut Db, disk: &mut D) -> Result<(), Halt>
     requires ready { IsReady D.Disk disk.old db.old }
-    ensures store { room db.new ≡ room db.old }
+    ensures store { store_of db.new ≡ store_of db.old }
     ensures indexed { is_indexed db.new ≡ true }
     ensures current { OnOk result (IsCurrent D.Disk disk.new db.new) }
-    ensures reach { OnOk result (IsTrue D.tells → ReachesMade (units_needed (D.files disk.old).pkg (Ok (room db.old)))
+    ensures reach { OnOk result (IsTrue D.tells → ReachesMade (units_needed (D.files disk.old).pkg (Ok (store_of db.old)))
         (D.files disk.old).idx (D.files disk.new).idx) }
-    ensures kinds { IfErr result IsOfReading }
+    ensures kinds { IfErr result IsOfQuestion }
     ensures runs { Runs D.Disk Remade disk.old disk.new }
     ensures disk { DiskFault D.Disk (result ≡ Err Halt.DiskFault) disk.old disk.new }
 {
@@ -75,8 +75,8 @@ fn exercise_all<D: Disk, O: Sink + Drop>(
     requires ready { IsReady D.Disk disk.old db.old }
     ensures ended { IsTrue D.tells → EndedOnOut O.Sink out.old out.new (exercise n (state_in D.Disk disk.old db.old))
         (state_in D.Disk disk.old db.old) (state_in D.Disk disk.new db.new) result }
-    ensures limits { IsTrue D.tells → Renewed (units_needed (D.files disk.old).pkg (Ok (room db.old)))
-        (λ mid. LimitsTurn true (state_in D.Disk disk.old db.old) (room db.old) (room db.new) mid (D.files disk.new)
+    ensures limits { IsTrue D.tells → HoldsAfterRebuild (units_needed (D.files disk.old).pkg (Ok (store_of db.old)))
+        (λ mid. LimitsTurn true (state_in D.Disk disk.old db.old) (store_of db.old) (store_of db.new) mid (D.files disk.new)
         (changes n (state_in D.Disk disk.old db.old)) result) (D.files disk.old) }
     ensures current { IfOk result (λ _tally. IsCurrent D.Disk disk.new db.new) }
     ensures stop { IfErr result (IsStop db.new) }
@@ -135,8 +135,8 @@ pub fn exercise<D: Disk, O: Sink + Drop>(
         (state_in D.Disk disk.new db.new) r (with_out O.Sink err_tells err out.old)
         (with_out O.Sink err_tells err out.new)) result }
     ensures limits { IsTrue D.tells → OnceBegun
-        (λ r. Renewed (units_needed (D.files disk.old).pkg (Ok (room db.old)))
-        (λ mid. LimitsTurn true (state_in D.Disk disk.old db.old) (room db.old) (room db.new) mid (D.files disk.new)
+        (λ r. HoldsAfterRebuild (units_needed (D.files disk.old).pkg (Ok (store_of db.old)))
+        (λ mid. LimitsTurn true (state_in D.Disk disk.old db.old) (store_of db.old) (store_of db.new) mid (D.files disk.new)
         (changes n (state_in D.Disk disk.old db.old)) r) (D.files disk.old)) result }
     ensures current { IfOk result (λ _tally. IsCurrent D.Disk disk.new db.new) }
     ensures stop { OnceBegun (λ r. IfErr r (IsStop db.new)) result }

@@ -1,7 +1,7 @@
 //! What is found of the packages that a question picks.
 
 ghost use Rattle.std.specs.Prelude.{◌≡◌, ◌++◌, ℕ, List, IsTrue, Ok, IfOk};
-ghost use Rattle.rpm_exercise.specs.Prelude.{Asks, capability, capability_named, entry_in, exported, HasRows, Holds256, IsAskable, IsFound, packages_in, pick_halt, picked, result_err};
+ghost use Rattle.rpm_exercise.specs.Prelude.{ExerciseQuestion, capability, capability_named, entry_in, exported_bytes, HasKeptRows, Holds256, IsAskable, IsFound, packages_in, pick_halt, picked_count, result_err};
 ghost use Rattle.rpm_select.specs.declared.selection.Selection.TheVariants as question;
 
 use rpm_db::Db;
@@ -32,7 +32,7 @@ fn halt_of(fault: PickFault) -> Halt
 
 /// Feeds a package as it is exported.
 fn feed(hasher: &mut Sha256, picked: &Picked)
-    ensures { (m : List ℕ) → Holds256 hasher.old m → Holds256 hasher.new (m ++ exported (entry_in picked.now)) }
+    ensures { (m : List ℕ) → Holds256 hasher.old m → Holds256 hasher.new (m ++ exported_bytes (entry_in picked.now)) }
 {
     match picked {
         Picked::Good { blob, .. } => {
@@ -51,8 +51,8 @@ pub fn survey<D: Disk>(
     selection: &Selection<'_>,
 ) -> Result<Found, Halt>
     requires asked { IsAskable D.Disk disk.old db.now }
-    ensures told { IsTrue D.tells → HasRows D.Disk disk.old db.now → IfOk result (IsFound (packages_in D.Disk disk.old db.now) selection.now) }
-    ensures asks { Asks D.Disk disk.old disk.new db.now (result_err result) }
+    ensures told { IsTrue D.tells → HasKeptRows D.Disk disk.old db.now → IfOk result (IsFound (packages_in D.Disk disk.old db.now) selection.now) }
+    ensures asks { ExerciseQuestion D.Disk disk.old disk.new db.now (result_err result) }
 {
     let mut picker = match Picker::new(alloc, db, disk, selection) {
         Ok(picker) => picker,
@@ -86,10 +86,10 @@ pub fn count_provided<D: Disk>(
 ) -> Result<u32, Halt>
     requires named { capability name.now ≡ Ok (capability_named name.now) }
     requires asked { IsAskable D.Disk disk.old db.now }
-    ensures told { IsTrue D.tells → HasRows D.Disk disk.old db.now
-        → IfOk result (λ count. count ≡ picked (packages_in D.Disk disk.old db.now)
+    ensures told { IsTrue D.tells → HasKeptRows D.Disk disk.old db.now
+        → IfOk result (λ count. count ≡ picked_count (packages_in D.Disk disk.old db.now)
         (question.Provides (capability_named name.now))) }
-    ensures asks { Asks D.Disk disk.old disk.new db.now (result_err result) }
+    ensures asks { ExerciseQuestion D.Disk disk.old disk.new db.now (result_err result) }
 {
     match Capability::read(name) {
         Ok(capability) => {

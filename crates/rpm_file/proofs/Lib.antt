@@ -7,3 +7,4 @@ pub mod Merged
 pub mod Packaged
 pub mod Tagged
 pub mod Vocabulary
+pub mod Layers

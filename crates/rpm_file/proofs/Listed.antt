@@ -1,8 +1,8 @@
 -- A header of a list, read in two pieces.
 use Rattle.std.proofs.Common.{◌≡◌, ℕ, ◌+◌, ◌-◌, ◌*◌, ◌≤◌, ◌<◌, List, [], ◌∷◌, ◌++◌, Option, Some, None, Result, Ok, Err, length, take, drop, true, false, Bool, refl, sym, ap, subst, ◌∙◌, arith, length-append, append_assoc, le-ltb, lt-ltb}
 use Rattle.std.specs.Prelude.{nat_lt, not, if◌then◌else◌, nat_eq, is_some}
-use Rattle.rpm_file.proofs.Vocabulary.{AnswersBehind, AnswersNextIn, data_in, entries_in, Fills, front_header, has_magic, IsListFault, IsOutside, left}
-use Rattle.rpm_file.proofs.Vocabulary.{list_head, ListFault, magic, number_longer, pointwise, size_in, sized, some_found, Takes, w32}
+use Rattle.rpm_file.proofs.Vocabulary.{AnswersBehind, AnswersNextIn, data_in, entries_in, Fills, front_header, has_magic, IsListFault, IsOutsideList, bytes_left}
+use Rattle.rpm_file.proofs.Vocabulary.{list_head, ListFault, magic, number_longer, pointwise, size_in, found_of_size, some_found, Takes, w32}
 use Rattle.std.proofs.lemmas.List.{take-append-le, take_all, take_at, drop_at, drop-append-le, drop-drop, length-take, length-drop}
 use Rattle.rpm_file.specs.declared.fault.ListFault.TheVariants as fault
 
@@ -21,7 +21,8 @@ size_longer intro more long = rw (
 
 -- ---- the two pieces
 
-front_sized : (intro more : List ℕ) (r : Result ℕ ListFault) → length intro ≡ 16 → r ≡ size_in intro → front_header (intro ++ more) ≡ sized (intro ++ more) r
+front_sized : (intro more : List ℕ) (r : Result ℕ ListFault) → length intro ≡ 16 → r ≡ size_in intro
+    → front_header (intro ++ more) ≡ found_of_size (intro ++ more) r
 unfolding front_header
 front_sized intro more r long is =
     let enough : nat_lt (length (intro ++ more)) 16 ≡ false = le-ltb (length (intro ++ more)) 16 (omega (arith, length-append intro more)) in
@@ -92,7 +93,7 @@ head_short bytes some few =
 
 -- ---- faults
 
-pub outside_fault : {X : Type 0} (found : Result X ListFault) (e : ListFault) → IsOutside e → IsListFault found e
+pub outside_fault : {X : Type 0} (found : Result X ListFault) (e : ListFault) → IsOutsideList e → IsListFault found e
 outside_fault found fault.ReadFault out = tt
 outside_fault found fault.NoMemory out = tt
 outside_fault found fault.Short out = absurd out
@@ -133,14 +134,15 @@ begun intro front long is = is ∙ take_all (length intro - 8) (drop 8 intro) (o
 
 -- fewer than 16 bytes came
 pub short_fill : (old new : Option (List ℕ)) (count : ℕ) (into : List ℕ) → Fills old new count into → 0 < count → count < 16 → length into ≡ 16
-    → list_head (left old) ≡ Err fault.Short
+    → list_head (bytes_left old) ≡ Err fault.Short
 short_fill old new count into f some few room =
     let none = f.ended (omega arith) in
-    let size : length (left old) ≡ count =
-    omega (arith, ap length f.front.front, length-append (take count into) (left new), length-take count into, ap length none) in
-    head_short (left old) (omega arith) (omega arith)
+    let size : length (bytes_left old) ≡ count =
+    omega (arith, ap length f.front.front, length-append (take count into) (bytes_left new), length-take count into, ap length none) in
+    head_short (bytes_left old) (omega arith) (omega arith)
 
-none_taken : (old new : Option (List ℕ)) → left old ≡ left new → left new ≡ [] → is_some new ≡ is_some old → (list_head (left old) ≡ Ok None) × (new ≡ old)
+none_taken : (old new : Option (List ℕ)) → bytes_left old ≡ bytes_left new → bytes_left new ≡ [] → is_some new ≡ is_some old
+    → (list_head (bytes_left old) ≡ Ok None) × (new ≡ old)
 none_taken None None same none opened = (refl, refl)
 none_taken (Some xs) (Some ys) same none opened = (ap list_head (same ∙ none), ap (λ (zs : List ℕ). Some zs) (sym same))
 none_taken None (Some ys) same none opened = absurd cc
@@ -148,9 +150,9 @@ none_taken (Some xs) None same none opened = absurd cc
 
 -- no byte came
 pub no_fill : (old new : Option (List ℕ)) (count : ℕ) (into : List ℕ) → Fills old new count into → count ≡ 0 → length into ≡ 16
-    → (list_head (left old) ≡ Ok None) × (new ≡ old)
+    → (list_head (bytes_left old) ≡ Ok None) × (new ≡ old)
 no_fill old new count into f nothing room =
-    none_taken old new (f.front.front ∙ ap (λ (n : ℕ). take n into ++ left new) nothing) (f.ended (omega arith)) f.front.opened
+    none_taken old new (f.front.front ∙ ap (λ (n : ℕ). take n into ++ bytes_left new) nothing) (f.ended (omega arith)) f.front.opened
 
 -- all came
 pub whole_fill : (old new : Option (List ℕ)) (count : ℕ) (into : List ℕ) → Fills old new count into → count ≤ length into → length into ≡ 16 → 16 ≤ count
@@ -170,6 +172,6 @@ pub behind_intro : (old mid new : Option (List ℕ)) (intro room : List ℕ) (r 
     → AnswersBehind intro mid new room r → AnswersNextIn old new room r
 behind_intro old mid new intro room (Ok None) long t h = absurd h
 behind_intro old mid new intro room (Ok (Some size)) long t h =
-    ap list_head t.front ∙ head_some (intro ++ left mid) (omega (arith, length-append intro (left mid))) ∙ ap some_found h
+    ap list_head t.front ∙ head_some (intro ++ bytes_left mid) (omega (arith, length-append intro (bytes_left mid))) ∙ ap some_found h
 behind_intro old mid new intro room (Err e) long t h = subst (λ (bytes : List ℕ). IsListFault (list_head bytes) e) (sym t.front)
-    (fault_head (intro ++ left mid) e (omega (arith, length-append intro (left mid))) h)
+    (fault_head (intro ++ bytes_left mid) e (omega (arith, length-append intro (bytes_left mid))) h)

@@ -1,9 +1,9 @@
 -- The entries that join, one after the other.
 use Rattle.std.proofs.Common.{◌≡◌, ℕ, ◌+◌, ◌≤◌, ◌<◌, List, [], ◌∷◌, ◌++◌, Option, Some, None, Result, Ok, Err, length, take, true, false, refl, sym, ap, ◌∙◌, le-ltb, lt-ltb, inl, inr}
 use Rattle.std.specs.Prelude.{slice_get, ◌↔◌}
-use Rattle.rpm_file.proofs.Vocabulary.{and_entries, BuildFault, dribble, dribble_as, dribbled, dribbled_data, dribbles, entries_or_none, filter_map, Form, has_tag, HasIndex, Header}
-use Rattle.rpm_file.proofs.Vocabulary.{header, HeaderFault, is_null, IsMadeFault, Item, joins_as, made_fault, merged, passes_limits, read_again, retagged}
-use Rattle.rpm_file.proofs.Vocabulary.{with_entries}
+use Rattle.rpm_file.proofs.Vocabulary.{and_entries, BuildFault, dribble, dribble_as, dribbled_blob, dribbled_data, dribbles, entries_or_none, filter_map, Form, has_tag, HasIndexBytes, Header}
+use Rattle.rpm_file.proofs.Vocabulary.{header, HeaderFault, is_null, IsMadeFault, Item, joins_as, made_fault, merged_header, passes_limits, read_again, with_tag}
+use Rattle.rpm_file.proofs.Vocabulary.{header_with_entries}
 use Rattle.std.proofs.lemmas.List.{append-nil}
 use Rattle.std.proofs.lemmas.List.Elements.{filter_map-append}
 use Rattle.std.proofs.lemmas.Bool.{cases_lt}
@@ -11,7 +11,7 @@ use Rattle.rpm_header.specs.declared.form.Form.TheVariants as form
 use Rattle.rpm_header.specs.declared.laying.BuildFault.TheVariants as build
 use Rattle.rpm_file.specs.declared.fault.FileFault.TheVariants as fault
 use Rattle.rpm_file.proofs.Tagged.{next_taken}
-use Rattle.rpm_file.specs.inner.Layers.{laid_once}
+use Rattle.rpm_file.proofs.Layers.{laid_once}
 
 -- ---- what an entry becomes
 
@@ -30,7 +30,7 @@ pub none_twice : (main : List Item) (e : Item) (tag : ℕ) → is_null e.form �
 none_twice main e tag other is has = dribble_is main e (Some tag) other is ∙ rw has refl
 
 pub joins : (main : List Item) (e : Item) (tag : ℕ) → is_null e.form ≡ false → joins_as e.tag ≡ Some tag → has_tag tag main ≡ false
-    → dribble main e ≡ Some (retagged tag e)
+    → dribble main e ≡ Some (with_tag tag e)
 joins main e tag other is has = dribble_is main e (Some tag) other is ∙ rw has refl
 
 pub not_null : (f : Form) → is_null f ≡ false → f ≡ form.Null → ⊥
@@ -74,21 +74,21 @@ keeps_limits r v n size is many much =
 
 pub made_bytes : (main : Header) (more : List Item) (blob : List ℕ)
     → passes_limits (length main.entries + length more) (length (dribbled_data main more)) ≡ false
-    → blob ≡ dribbled main more → header blob ≡ Ok (record { blob = blob; entries = main.entries ++ more })
-    → (with_entries main more ≡ Ok (read_again blob)) × (header blob ≡ Ok (read_again blob))
+    → blob ≡ dribbled_blob main more → header blob ≡ Ok (record { blob = blob; entries = main.entries ++ more })
+    → (header_with_entries main more ≡ Ok (read_again blob)) × (header blob ≡ Ok (read_again blob))
 made_bytes main more blob fits laid again =
     let same : read_again blob ≡ record { blob = blob; entries = main.entries ++ more } =
     ap (λ (r : Result Header HeaderFault). record { blob = blob; entries = entries_or_none r }) again in
     (rw (fits, same, laid) refl, again ∙ ap (λ (h : Header). Ok h) (sym same))
 
 made_large : (main : Header) (more : List Item) → passes_limits (length main.entries + length more) (length (dribbled_data main more)) ≡ true
-    → with_entries main more ≡ Err fault.TooLarge
+    → header_with_entries main more ≡ Err fault.TooLarge
 made_large main more past = rw past refl
 
 pub made_not : {V : Type 0} (r : Result V BuildFault) (e : BuildFault) (main : Header) (more : List Item) → r ≡ Err e
     → ((r ≡ Err build.TooManyEntries) ↔ (65535 < length main.entries + length more))
     → ((r ≡ Err build.TooMuchData) ↔ ((length main.entries + length more ≤ 65535) × (67108864 < length (dribbled_data main more))))
-    → IsMadeFault (with_entries main more) (made_fault e)
+    → IsMadeFault (header_with_entries main more) (made_fault e)
 made_not r build.TooManyEntries main more is many much = made_large main more (rw (lt-ltb 65535 (length main.entries + length more) (many.0 is)) refl)
 made_not r build.TooMuchData main more is many much =
     let both = much.0 is in
@@ -96,7 +96,7 @@ made_not r build.TooMuchData main more is many much =
 made_not r build.NoMemory main more is many much = tt
 
 -- the entries that join, and those of the caller after them, all at once
-pub merged_is : (signature : List Item) (main : Header) (stamps more : List Item) → HasIndex main → more ≡ dribbles main.entries signature ++ stamps
-    → with_entries main more ≡ and_entries stamps (merged signature main)
-unfolding merged
-merged_is signature main stamps more room are = ap (with_entries main) are ∙ sym (laid_once main (dribbles main.entries signature) stamps room)
+pub merged_is : (signature : List Item) (main : Header) (stamps more : List Item) → HasIndexBytes main → more ≡ dribbles main.entries signature ++ stamps
+    → header_with_entries main more ≡ and_entries stamps (merged_header signature main)
+unfolding merged_header
+merged_is signature main stamps more room are = ap (header_with_entries main) are ∙ sym (laid_once main (dribbles main.entries signature) stamps room)

@@ -1,8 +1,8 @@
 -- The parts of a package file, one after the other.
 use Rattle.std.proofs.Common.{◌≡◌, ℕ, ◌≤◌, ◌<◌, List, [], ◌∷◌, ◌++◌, Option, None, Result, Ok, Err, length, take, drop, true, false, refl, ap, ◌∙◌, arith, length-append, le-ltb, lt-ltb}
 use Rattle.std.specs.Prelude.{nat_lt, nat_eq}
-use Rattle.rpm_file.proofs.Vocabulary.{AnswersSkip, AnswersTake, behind_lead, behind_padding, early_fault, FileFault, Found, front_header, headed, headed_of}
-use Rattle.rpm_file.proofs.Vocabulary.{HeaderKind, is_lead, IsFileFault, IsListFault, lead_magic, left, list_head, ListFault, number_longer, padding_of}
+use Rattle.rpm_file.proofs.Vocabulary.{AnswersSkip, AnswersTake, behind_lead, behind_padding, early_fault, FileFault, BlobAndRest, front_header, headed_part, headed_of}
+use Rattle.rpm_file.proofs.Vocabulary.{HeaderKind, is_lead, IsFileFault, IsListFault, lead_magic, bytes_left, list_head, ListFault, number_longer, padding_of}
 use Rattle.rpm_file.proofs.Vocabulary.{pointwise, some_found, w16}
 use Rattle.std.proofs.lemmas.List.{take-append-le, drop_at}
 use Rattle.rpm_file.specs.declared.fault.FileFault.TheVariants as fault
@@ -58,7 +58,7 @@ padding_short blob bytes padding long few =
 
 -- a fault of what was to be taken
 pub taken_fault : (X : Type 0) (found : Result (List ℕ) FileFault) (old new : Option (List ℕ)) (into : List ℕ) (e : FileFault)
-    → (length (left old) < length into → found ≡ Err fault.Short) → AnswersTake {X = X} old new into (Err e) → IsFileFault found e
+    → (length (bytes_left old) < length into → found ≡ Err fault.Short) → AnswersTake {X = X} old new into (Err e) → IsFileFault found e
 taken_fault X found old new into fault.Short short t = short t
 taken_fault X found old new into fault.ReadFault short t = tt
 taken_fault X found old new into fault.NotAPackage short t = absurd t
@@ -70,8 +70,9 @@ taken_fault X found old new into fault.NoMemory short t = absurd t
 
 pub padding_skipped : {X : Type 0} (blob : List ℕ) (old new : Option (List ℕ)) (into : List ℕ) (r : Result X FileFault)
     → length into ≡ padding_of blob → AnswersTake old new into r → AnswersSkip (behind_padding blob) old new r
-padding_skipped blob old new into (Ok done) long t = padding_taken blob (left old) into (left new) t.front long
-padding_skipped {X} blob old new into (Err e) long t = taken_fault X (behind_padding blob (left old)) old new into e (padding_short blob (left old) into long) t
+padding_skipped blob old new into (Ok done) long t = padding_taken blob (bytes_left old) into (bytes_left new) t.front long
+padding_skipped {X} blob old new into (Err e) long t =
+    taken_fault X (behind_padding blob (bytes_left old)) old new into e (padding_short blob (bytes_left old) into long) t
 
 -- ---- one of the two headers
 
@@ -79,7 +80,7 @@ front_none : front_header [] ≡ Err of_list.Short
 unfolding front_header
 front_none = refl
 
-front_of_found : (r : Result Found ListFault) (e : ListFault) → some_found r ≡ Err e → r ≡ Err e
+front_of_found : (r : Result BlobAndRest ListFault) (e : ListFault) → some_found r ≡ Err e → r ≡ Err e
 front_of_found (Ok f) e is = absurd cc
 front_of_found (Err f) e is = cc
 
@@ -87,20 +88,20 @@ front_fault : (bytes : List ℕ) (e : ListFault) → list_head bytes ≡ Err e �
 front_fault [] e is = absurd cc
 front_fault (b ∷ bytes) e is = front_of_found (front_header (b ∷ bytes)) e is
 
-not_none : (r : Result Found ListFault) → some_found r ≡ Ok None → ⊥
+not_none : (r : Result BlobAndRest ListFault) → some_found r ≡ Ok None → ⊥
 not_none (Ok f) is = cc
 not_none (Err e) is = cc
 
-pub headed_none : (p : HeaderKind) (bytes : List ℕ) → list_head bytes ≡ Ok None → headed p bytes ≡ Err fault.Short
-unfolding headed
+pub headed_none : (p : HeaderKind) (bytes : List ℕ) → list_head bytes ≡ Ok None → headed_part p bytes ≡ Err fault.Short
+unfolding headed_part
 headed_none p [] is = ap (headed_of p) front_none
 headed_none p (b ∷ bytes) is = absurd (not_none (front_header (b ∷ bytes)) is)
 
-headed_early : (p : HeaderKind) (bytes : List ℕ) (e : ListFault) → list_head bytes ≡ Err e → headed p bytes ≡ Err (early_fault p e)
-unfolding headed
+headed_early : (p : HeaderKind) (bytes : List ℕ) (e : ListFault) → list_head bytes ≡ Err e → headed_part p bytes ≡ Err (early_fault p e)
+unfolding headed_part
 headed_early p bytes e is = ap (headed_of p) (front_fault bytes e is)
 
-pub headed_fault : (p : HeaderKind) (bytes : List ℕ) (e : ListFault) → IsListFault (list_head bytes) e → IsFileFault (headed p bytes) (early_fault p e)
+pub headed_fault : (p : HeaderKind) (bytes : List ℕ) (e : ListFault) → IsListFault (list_head bytes) e → IsFileFault (headed_part p bytes) (early_fault p e)
 headed_fault p bytes of_list.ReadFault is = tt
 headed_fault p bytes of_list.NoMemory is = tt
 headed_fault p bytes of_list.Short is = headed_early p bytes of_list.Short is

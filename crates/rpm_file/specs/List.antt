@@ -1,5 +1,6 @@
 -- A header list: any number of headers, each with the eight bytes of its magic in front.
-use Rattle.std.specs.Prelude.{ℕ, ◌+◌, ◌-◌, ◌*◌, List, [], ◌∷◌, length, take, drop, Bool, not, nat_eq, nat_lt, if◌then◌else◌, Option, Some, None, Result, Ok, Err}
+use Rattle.std.specs.Prelude.{ℕ, ◌+◌, ◌-◌, ◌*◌, List, [], ◌∷◌, length, take, drop, Bool, not, nat_eq, nat_lt}
+use Rattle.std.specs.Prelude.{if◌then◌else◌, Option, Some, None, Result, Ok, Err}
 use Rattle.std.specs.List.{starts_with}
 use Rattle.std.specs.Int.{w32}
 use Rattle.rpm_header.specs.Header.{max_data, max_entries}
@@ -9,7 +10,7 @@ use Rattle.rpm_file.specs.declared.fault.ListFault.{ListFault}
 use Rattle.rpm_file.specs.declared.fault.ListFault.TheVariants.{Short, BadMagic, TooManyEntries, TooMuchData}
 
 -- a header's own bytes, and those that follow it
-pub record Found : Type 0 where
+pub record BlobAndRest : Type 0 where
   pub blob : List ℕ
   pub rest : List ℕ
 
@@ -43,22 +44,22 @@ unfoldable pub header_extent : List ℕ → ℕ
 header_extent bytes = 16 + body_length (size_in bytes)
 
 -- a header of this length after its magic
-abbrev pub sized : List ℕ → Result ℕ ListFault → Result Found ListFault
-sized bytes (Err fault) = Err fault
-sized bytes (Ok size) =
+abbrev pub found_of_size : List ℕ → Result ℕ ListFault → Result BlobAndRest ListFault
+found_of_size bytes (Err fault) = Err fault
+found_of_size bytes (Ok size) =
     if nat_lt (length bytes) (8 + size) then Err Short
     else Ok (record { blob = take size (drop 8 bytes); rest = drop (8 + size) bytes })
 
 -- the header that stands in front of a list, or its first fault
-unfoldable pub front_header : List ℕ → Result Found ListFault
-front_header bytes = if nat_lt (length bytes) 16 then Err Short else sized bytes (size_in bytes)
+unfoldable pub front_header : List ℕ → Result BlobAndRest ListFault
+front_header bytes = if nat_lt (length bytes) 16 then Err Short else found_of_size bytes (size_in bytes)
 
 -- what was found is one more header of the list
-abbrev pub some_found : Result Found ListFault → Result (Option Found) ListFault
+abbrev pub some_found : Result BlobAndRest ListFault → Result (Option BlobAndRest) ListFault
 some_found (Ok found) = Ok (Some found)
 some_found (Err fault) = Err fault
 
 -- the next header of a list, None at its end, or its first fault
-abbrev pub list_head : List ℕ → Result (Option Found) ListFault
+abbrev pub list_head : List ℕ → Result (Option BlobAndRest) ListFault
 list_head [] = Ok None
 list_head (byte ∷ bytes) = some_found (front_header (byte ∷ bytes))

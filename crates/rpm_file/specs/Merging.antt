@@ -1,11 +1,12 @@
 -- The entries of a signature header that join the main header after its own.
-use Rattle.std.specs.Prelude.{◌≡◌, ℕ, ◌+◌, List, [], ◌∷◌, ◌++◌, length, map, All, Bool, true, false, ◌==◌, ◌&&◌, ◌||◌, nat_lt, nat_le, if◌then◌else◌, Option, Some, None, Result, Ok, Err}
+use Rattle.std.specs.Prelude.{◌≡◌, ℕ, ◌+◌, List, [], ◌∷◌, ◌++◌, length, map, All, Bool, true, false, ◌==◌, ◌&&◌, ◌||◌}
+use Rattle.std.specs.Prelude.{nat_lt, nat_le, if◌then◌else◌, Option, Some, None, Result, Ok, Err}
 use Rattle.std.specs.List.{list_any, filter_map}
 use Rattle.rpm_header.specs.declared.form.Form.{Form}
 use Rattle.rpm_header.specs.declared.form.Form.TheVariants as form
 use Rattle.rpm_header.specs.Header.{max_data, max_entries, is_region_tag, Item, Header}
-use Rattle.rpm_header.specs.Build.{numbers_item, retagged}
-use Rattle.rpm_header.specs.Dribbles.{dribbled, dribbled_data}
+use Rattle.rpm_header.specs.Build.{numbers_item, with_tag}
+use Rattle.rpm_header.specs.Dribbles.{dribbled_blob, dribbled_data}
 use Rattle.rpm_file.specs.declared.fault.FileFault.{FileFault}
 use Rattle.rpm_file.specs.declared.fault.FileFault.TheVariants.{TooLarge}
 use Rattle.rpm_file.specs.declared.merging.Stamp.{Stamp}
@@ -31,7 +32,7 @@ has_tag tag entries = list_any (λ e. e.tag == tag) entries
 -- an entry under the tag that it gets, unless the main header has this tag
 abbrev pub dribble_as : List Item → Item → Option ℕ → Option Item
 dribble_as main e None = None
-dribble_as main e (Some tag) = if has_tag tag main then None else Some (retagged tag e)
+dribble_as main e (Some tag) = if has_tag tag main then None else Some (with_tag tag e)
 
 -- what becomes of one entry
 unfoldable pub dribble : List Item → Item → Option Item
@@ -62,16 +63,16 @@ abbrev pub passes_limits : ℕ → ℕ → Bool
 passes_limits count size = nat_lt max_entries count || nat_lt max_data size
 
 -- a header with these entries after its own, unless it would pass a limit
-abbrev pub with_entries : Header → List Item → Result Header FileFault
-with_entries main more =
+abbrev pub header_with_entries : Header → List Item → Result Header FileFault
+header_with_entries main more =
     if passes_limits (length main.entries + length more) (length (dribbled_data main more)) then Err TooLarge
-    else Ok (record { blob = dribbled main more; entries = main.entries ++ more })
+    else Ok (record { blob = dribbled_blob main more; entries = main.entries ++ more })
 
 -- a header that could be read gets more entries
 abbrev pub and_entries : List Item → Result Header FileFault → Result Header FileFault
-and_entries more (Ok h) = with_entries h more
+and_entries more (Ok h) = header_with_entries h more
 and_entries more (Err fault) = Err fault
 
 -- the main header with all that join it
-unfoldable pub merged : List Item → Header → Result Header FileFault
-merged signature main = with_entries main (dribbles main.entries signature)
+unfoldable pub merged_header : List Item → Header → Result Header FileFault
+merged_header signature main = header_with_entries main (dribbles main.entries signature)

@@ -1,7 +1,7 @@
 //! Reads that go on until enough bytes have come.
 
 ghost use Rattle.std.specs.Prelude.{◌≡◌, ◌<◌, ◌≤◌, ◌+◌, ◌-◌, ◌++◌, [], IsTrue, length, take, drop, vec_len, Err, IfOk, IfErr, OnOk};
-ghost use Rattle.rpm_file.specs.Prelude.{Appends, Browses, Extends, Fills, HasCause, HasCauseAt, IsOutside, left, TakesAtMost};
+ghost use Rattle.rpm_file.specs.Prelude.{Appends, Browses, Extends, Fills, HasCause, HasCauseAt, IsOutsideList, bytes_left, TakesAtMost};
 
 use crate::fault::ListFault;
 use rpm_outside::{Failed, Shelf};
@@ -76,8 +76,8 @@ fn fill_some<S: Shelf>(
     ensures extends { IfOk result (λ count. IsTrue S.tells
         → Extends (S.rest shelf.old) (S.rest shelf.new) (take from room.old.items)
         (take (from + count) room.new.items)) }
-    ensures ended { IfOk result (λ count. IsTrue S.tells → count < more → left (S.rest shelf.new) ≡ []) }
-    ensures only { IfErr result IsOutside }
+    ensures ended { IfOk result (λ count. IsTrue S.tells → count < more → bytes_left (S.rest shelf.new) ≡ []) }
+    ensures only { IfErr result IsOutsideList }
     ensures browses { Browses S.Shelf shelf.old shelf.new }
     ensures cause { HasCauseAt (result ≡ Err ListFault.ReadFault) (S.faults shelf.old) (S.faults shelf.new) }
     ensures extent { IsTrue S.tells → TakesAtMost more (S.rest shelf.old) (S.rest shelf.new) }
@@ -123,7 +123,7 @@ pub fn fill_upto<S: Shelf>(
     ensures long { IfOk result (λ done. done ≤ vec_len room.new) }
     ensures appends { IfOk result (λ done. IsTrue S.tells
         → Appends (S.rest shelf.old) (S.rest shelf.new) (take from room.old.items) size (take done room.new.items)) }
-    ensures only { IfErr result IsOutside }
+    ensures only { IfErr result IsOutsideList }
     ensures browses { Browses S.Shelf shelf.old shelf.new }
     ensures cause { HasCauseAt (result ≡ Err ListFault.ReadFault) (S.faults shelf.old) (S.faults shelf.new) }
     ensures extent { IsTrue S.tells → TakesAtMost (size - from) (S.rest shelf.old) (S.rest shelf.new) }

@@ -1,7 +1,7 @@
 //! The headers of a list, one at a time.
 
 ghost use Rattle.std.specs.Prelude.{◌≡◌, ℕ, ◌≤◌, IsTrue, length, vec_len, Ok, Err, IfOk, IfSome};
-ghost use Rattle.rpm_file.specs.Prelude.{AnswersBehind, AnswersIntro, AnswersNext, AnswersNextIn, body_length, Browses, HasCauseAt, header_extent, left, max_blob, size_in, TakesAtMost};
+ghost use Rattle.rpm_file.specs.Prelude.{AnswersBehind, AnswersIntro, AnswersNext, AnswersNextIn, body_length, Browses, HasCauseAt, header_extent, bytes_left, max_blob, size_in, TakesAtMost};
 
 use crate::bytes::u32_at;
 use crate::fault::ListFault;
@@ -113,7 +113,7 @@ pub fn read_header<S: Shelf>(shelf: &mut S, room: &mut Vec<u8>) -> Result<Option
     ensures answers { IsTrue S.tells → AnswersNextIn (S.rest shelf.old) (S.rest shelf.new) room.new.items result }
     ensures browses { Browses S.Shelf shelf.old shelf.new }
     ensures cause { HasCauseAt (result ≡ Err ListFault.ReadFault) (S.faults shelf.old) (S.faults shelf.new) }
-    ensures extent { IsTrue S.tells → TakesAtMost (header_extent (left (S.rest shelf.old))) (S.rest shelf.old) (S.rest shelf.new) }
+    ensures extent { IsTrue S.tells → TakesAtMost (header_extent (bytes_left (S.rest shelf.old))) (S.rest shelf.old) (S.rest shelf.new) }
 {
     let mut intro = [0u8; 16];
     let begins = take_intro(shelf, &mut intro)?;
@@ -134,7 +134,7 @@ pub fn next_header<S: Shelf>(alloc: Global, shelf: &mut S) -> Result<Option<Vec<
     ensures answers { IsTrue S.tells → AnswersNext (S.rest shelf.old) (S.rest shelf.new) result }
     ensures browses { Browses S.Shelf shelf.old shelf.new }
     ensures cause { HasCauseAt (result ≡ Err ListFault.ReadFault) (S.faults shelf.old) (S.faults shelf.new) }
-    ensures extent { IsTrue S.tells → TakesAtMost (header_extent (left (S.rest shelf.old))) (S.rest shelf.old) (S.rest shelf.new) }
+    ensures extent { IsTrue S.tells → TakesAtMost (header_extent (bytes_left (S.rest shelf.old))) (S.rest shelf.old) (S.rest shelf.new) }
 {
     let mut blob = Vec::new(alloc);
     let Some(size) = read_header(shelf, &mut blob)? else {

@@ -1,7 +1,7 @@
 //! The entries that come after the main header's own: those of the signature header that join it, and the caller's.
 
 ghost use Rattle.std.specs.Prelude.{◌≡◌, ◌<◌, ◌++◌, List, length, false, IfOk, IfSome, OnOk};
-ghost use Rattle.rpm_file.specs.Prelude.{and_entries, AnswersBytes, AreStamps, dribbles, HasIndex, HasTags, is_null, is_region_tag, Item, joins_as, JoinsUnder, made_fault, merged, stamp_items, with_entries};
+ghost use Rattle.rpm_file.specs.Prelude.{and_entries, AnswersBytes, AreStamps, dribbles, HasIndexBytes, HasTags, is_null, is_region_tag, Item, joins_as, JoinsUnder, made_fault, merged_header, stamp_items, header_with_entries};
 
 use crate::fault::FileFault;
 use rpm_header::{BuildFault, Builder, Entry, Form, View, with_dribbles};
@@ -95,7 +95,7 @@ fn fault_of(fault: BuildFault) -> FileFault
 
 /// A header with the builder's entries after its own.
 fn with_entries(alloc: Global, main: &View<'_>, more: &Builder) -> Result<Vec<u8>, FileFault>
-    ensures { AnswersBytes (with_entries main.now more.now) result }
+    ensures { AnswersBytes (header_with_entries main.now more.now) result }
 {
     match with_dribbles(alloc, main, more) {
         Ok(blob) => Ok(blob),
@@ -141,9 +141,9 @@ pub fn merged(
     main: &View<'_>,
     stamps: &[Stamp],
 ) -> Result<Vec<u8>, FileFault>
-    requires index { HasIndex main.now }
+    requires index { HasIndexBytes main.now }
     requires stamps { AreStamps stamps.now }
-    ensures { AnswersBytes (and_entries (stamp_items stamps.now) (merged signature.now.entries main.now)) result }
+    ensures { AnswersBytes (and_entries (stamp_items stamps.now) (merged_header signature.now.entries main.now)) result }
 {
     match joining(alloc, signature, main, stamps) {
         Ok(more) => with_entries(alloc, main, &more),

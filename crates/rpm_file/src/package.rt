@@ -1,7 +1,7 @@
 //! The main header of a package file.
 
 ghost use Rattle.std.specs.Prelude.{◌≡◌, ◌≤◌, IsTrue, length, Ok, Err};
-ghost use Rattle.rpm_file.specs.Prelude.{and_entries, AnswersBy, AnswersMade, AnswersPart, AnswersSkip, AnswersTake, AreStamps, behind_lead, behind_padding, behind_signature, Browses, early_fault, extent_behind, fault_in, HasCauseAt, HasIndex, headed_with, Header, header, header_extent, is_lead, left, max_blob, merged, package_extent, package_header, package_with, padding_of, read_again, stamp_items, TakesAtMost};
+ghost use Rattle.rpm_file.specs.Prelude.{and_entries, AnswersBy, AnswersMade, AnswersPart, AnswersSkip, AnswersTake, AreStamps, behind_lead, behind_padding, behind_signature, Browses, early_fault, extent_behind, fault_in, HasCauseAt, HasIndexBytes, headed_with, Header, header, header_extent, is_lead, bytes_left, max_blob, merged_header, package_extent, package_header, package_with, padding_of, read_again, stamp_items, TakesAtMost};
 
 use crate::bytes::u16_at;
 use crate::fault::{FileFault, HeaderKind, ListFault};
@@ -130,7 +130,7 @@ fn read_part<S: Shelf>(alloc: Global, shelf: &mut S, part: HeaderKind) -> Result
     ensures answers { IsTrue S.tells → AnswersPart part (S.rest shelf.old) (S.rest shelf.new) result }
     ensures browses { Browses S.Shelf shelf.old shelf.new }
     ensures cause { HasCauseAt (result ≡ Err FileFault.ReadFault) (S.faults shelf.old) (S.faults shelf.new) }
-    ensures extent { IsTrue S.tells → TakesAtMost (header_extent (left (S.rest shelf.old))) (S.rest shelf.old) (S.rest shelf.new) }
+    ensures extent { IsTrue S.tells → TakesAtMost (header_extent (bytes_left (S.rest shelf.old))) (S.rest shelf.old) (S.rest shelf.new) }
 {
     match next_header(alloc, shelf) {
         Ok(Some(blob)) => Ok(blob),
@@ -151,7 +151,7 @@ fn read_main<S: Shelf>(
         (S.rest shelf.old) (S.rest shelf.new) result }
     ensures browses { Browses S.Shelf shelf.old shelf.new }
     ensures cause { HasCauseAt (result ≡ Err FileFault.ReadFault) (S.faults shelf.old) (S.faults shelf.new) }
-    ensures extent { IsTrue S.tells → TakesAtMost (extent_behind signature.now (left (S.rest shelf.old))) (S.rest shelf.old) (S.rest shelf.new) }
+    ensures extent { IsTrue S.tells → TakesAtMost (extent_behind signature.now (bytes_left (S.rest shelf.old))) (S.rest shelf.old) (S.rest shelf.new) }
 {
     skip_padding(shelf, signature.blob())?;
     let blob = read_part(alloc, shelf, HeaderKind::Main)?;
@@ -165,9 +165,9 @@ fn joined(
     main: &View<'_>,
     stamps: &[Stamp],
 ) -> Result<Package, FileFault>
-    requires index { HasIndex main.now }
+    requires index { HasIndexBytes main.now }
     requires stamps { AreStamps stamps.now }
-    ensures { AnswersMade (and_entries (stamp_items stamps.now) (merged signature.now.entries main.now)) result }
+    ensures { AnswersMade (and_entries (stamp_items stamps.now) (merged_header signature.now.entries main.now)) result }
 {
     let blob = merged(alloc, signature, main, stamps)?;
     Ok(Package { blob })
@@ -191,7 +191,7 @@ pub fn read_package<S: Shelf>(alloc: Global, shelf: &mut S) -> Result<Package, F
     ensures answers { IsTrue S.tells → AnswersBy package_header (S.rest shelf.old) (S.rest shelf.new) result }
     ensures browses { Browses S.Shelf shelf.old shelf.new }
     ensures cause { HasCauseAt (result ≡ Err FileFault.ReadFault) (S.faults shelf.old) (S.faults shelf.new) }
-    ensures extent { IsTrue S.tells → TakesAtMost (package_extent (left (S.rest shelf.old))) (S.rest shelf.old) (S.rest shelf.new) }
+    ensures extent { IsTrue S.tells → TakesAtMost (package_extent (bytes_left (S.rest shelf.old))) (S.rest shelf.old) (S.rest shelf.new) }
 {
     read_package_with(alloc, shelf, &[])
 }
@@ -211,7 +211,7 @@ pub fn read_package_with<S: Shelf>(
     ensures answers { IsTrue S.tells → AnswersBy (package_with (stamp_items stamps.now)) (S.rest shelf.old) (S.rest shelf.new) result }
     ensures browses { Browses S.Shelf shelf.old shelf.new }
     ensures cause { HasCauseAt (result ≡ Err FileFault.ReadFault) (S.faults shelf.old) (S.faults shelf.new) }
-    ensures extent { IsTrue S.tells → TakesAtMost (package_extent (left (S.rest shelf.old))) (S.rest shelf.old) (S.rest shelf.new) }
+    ensures extent { IsTrue S.tells → TakesAtMost (package_extent (bytes_left (S.rest shelf.old))) (S.rest shelf.old) (S.rest shelf.new) }
 {
     skip_lead(shelf)?;
     let blob = read_part(alloc, shelf, HeaderKind::Signature)?;

@@ -1,8 +1,8 @@
 -- What the files of a package add to the owners of one path.
 use Rattle.std.proofs.Common.{◌≡◌, ℕ, Bool, true, false, ◌==◌, cond, List, [], ◌∷◌, ◌++◌, Option, Some, None, refl, sym, ap, ◌∙◌, arith, append_assoc, append-nil, Less, Equal, Greater}
 use Rattle.std.specs.Prelude.{T}
-use Rattle.rpm_filecheck.proofs.Vocabulary.{as_owner, bytes_eq, Facts, find, find-put, is_eq, is_sorted, is_sorted-put, joined, joined_to, last_from}
-use Rattle.rpm_filecheck.proofs.Vocabulary.{nat_cmp-IsAntisymmetric, nat_list_cmp_total, Ordering, Owner, OwnFile, path_order, Paths, said_of}
+use Rattle.rpm_filecheck.proofs.Vocabulary.{as_owner, bytes_eq, Facts, find, find-put, is_eq, is_sorted, is_sorted-put, owners_with, joined_to, last_from}
+use Rattle.rpm_filecheck.proofs.Vocabulary.{nat_cmp-IsAntisymmetric, nat_list_cmp_total, Ordering, Owner, OwnFile, path_order, OwnedPaths, said_of}
 use Rattle.rpm_filecheck.proofs.Vocabulary.{slice_cmp-IsAntisymmetric, with_files, with_owner}
 use Rattle.std.proofs.lemmas.Map.Text.{is_eq-slice_cmp}
 use Rattle.std.proofs.lemmas.Bool.Decides.{nat_tests}
@@ -31,7 +31,7 @@ steps : ℕ → List ℕ → List OwnFile → Option (List Owner) → Option (Li
 steps n q [] o = o
 steps n q (f ∷ fs) o = steps n q fs (step n q f o)
 
-find-with_owner : (q : List ℕ) (n : ℕ) (f : OwnFile) (es : Paths)
+find-with_owner : (q : List ℕ) (n : ℕ) (f : OwnFile) (es : OwnedPaths)
     → find path_order q (with_owner f.path (record { number = n; facts = f.facts }) es) ≡ step n q f (find path_order q es)
 unfolding step
 find-with_owner q n f es =
@@ -46,13 +46,13 @@ find-with_owner q n f es =
     here true t = ap (λ (p : List ℕ). Some (joined_to (find path_order p es) (record { number = n; facts = f.facts }))) (sym (same_path q f.path t))
     here false t = refl
 
-find-with_files : (q : List ℕ) (n : ℕ) (fs : List OwnFile) (es : Paths) → find path_order q (with_files n fs es) ≡ steps n q fs (find path_order q es)
+find-with_files : (q : List ℕ) (n : ℕ) (fs : List OwnFile) (es : OwnedPaths) → find path_order q (with_files n fs es) ≡ steps n q fs (find path_order q es)
 unfolding steps
 find-with_files q n [] es = refl
 find-with_files q n (f ∷ fs) es =
     find-with_files q n fs (with_owner f.path (record { number = n; facts = f.facts }) es) ∙ ap (steps n q fs) (find-with_owner q n f es)
 
-pub is_sorted-with_files : (n : ℕ) (fs : List OwnFile) (es : Paths) → T (is_sorted path_order es) → T (is_sorted path_order (with_files n fs es))
+pub is_sorted-with_files : (n : ℕ) (fs : List OwnFile) (es : OwnedPaths) → T (is_sorted path_order es) → T (is_sorted path_order (with_files n fs es))
 is_sorted-with_files n [] es t = t
 is_sorted-with_files n (f ∷ fs) es t =
     let o : Owner = record { number = n; facts = f.facts } in
@@ -86,9 +86,9 @@ unfolding steps step
 steps-same n q [] os is = refl
 steps-same n q (f ∷ fs) os is =
     let test : (last_from 0 os == n) ≡ true = ap (λ (m : ℕ). m == n) is ∙ same_number n in
-    let kept : joined os (record { number = n; facts = f.facts }) ≡ os =
+    let kept : owners_with os (record { number = n; facts = f.facts }) ≡ os =
     ap (λ (b : Bool). cond b os (os ++ record { number = n; facts = f.facts } ∷ [])) test in
-    elim (bytes_eq q f.path) as (λ b. steps n q fs (cond b (Some (joined os (record { number = n; facts = f.facts }))) (Some os)) ≡ Some os) [
+    elim (bytes_eq q f.path) as (λ b. steps n q fs (cond b (Some (owners_with os (record { number = n; facts = f.facts }))) (Some os)) ≡ Some os) [
       | true ↦ ap (λ (ws : List Owner). steps n q fs (Some ws)) kept ∙ steps-same n q fs os is
       | false ↦ steps-same n q fs os is
     ]
@@ -98,7 +98,7 @@ first_step : (n : ℕ) (q : List ℕ) (fs : List OwnFile) (facts : Facts) (o : O
 first_step n q fs facts None new = steps-same n q fs (record { number = n; facts = facts } ∷ []) refl
 first_step n q fs facts (Some os) new =
     let x : Owner = record { number = n; facts = facts } in
-    let more : joined os x ≡ os ++ x ∷ [] = ap (λ (b : Bool). cond b os (os ++ x ∷ [])) new in
+    let more : owners_with os x ≡ os ++ x ∷ [] = ap (λ (b : Bool). cond b os (os ++ x ∷ [])) new in
     ap (λ (ws : List Owner). steps n q fs (Some ws)) more ∙ steps-same n q fs (os ++ x ∷ []) (last_from-append 0 os x)
 
 steps-grown : (n : ℕ) (q : List ℕ) (fs : List OwnFile) (o : Option (List Owner)) → IsNew n o → steps n q fs o ≡ grown o (as_owner n (said_of q fs))
@@ -112,6 +112,6 @@ steps-grown n q (f ∷ fs) o new =
     ]
 
 -- the owners of a path, with the files of a package
-pub find-package : (q : List ℕ) (n : ℕ) (fs : List OwnFile) (es : Paths) → IsNew n (find path_order q es)
+pub find-package : (q : List ℕ) (n : ℕ) (fs : List OwnFile) (es : OwnedPaths) → IsNew n (find path_order q es)
     → find path_order q (with_files n fs es) ≡ grown (find path_order q es) (as_owner n (said_of q fs))
 find-package q n fs es new = find-with_files q n fs es ∙ steps-grown n q fs (find path_order q es) new

@@ -1,7 +1,7 @@
 -- One owner more.
 use Rattle.std.proofs.Common.{◌≡◌, ℕ, List, [], ◌∷◌, ◌++◌, Option, Some, None, refl, ap, sym, ◌∙◌}
 use Rattle.std.specs.Prelude.{Vec}
-use Rattle.rpm_filecheck.proofs.Vocabulary.{find, Global, insert_entry, is_at, joined_to, key_order, last_from, lookup, option_map, Owner, path_order, Paths}
+use Rattle.rpm_filecheck.proofs.Vocabulary.{find, Global, insert_entry, is_at, joined_to, key_order, last_from, lookup, option_map, Owner, path_order, OwnedPaths}
 use Rattle.rpm_filecheck.proofs.Vocabulary.{put, with_owner}
 use Rattle.rpm_filecheck.proofs.Placing.{seen_as, seen-insert_entry, lookup-seen}
 
@@ -10,7 +10,7 @@ last_from-append n [] o = refl
 last_from-append n (p ∷ os) o = last_from-append p.number os o
 
 -- what contracts see of a map from paths to owners
-abbrev pub seen : List (Vec ℕ Global × List Owner) → Paths
+abbrev pub seen : List (Vec ℕ Global × List Owner) → OwnedPaths
 seen es = seen_as path_order (λ (k : Vec ℕ Global). k.items) (λ (os : List Owner). os) es
 
 option_same : {X : Type 0} (o : Option X) → option_map (λ x. x) o ≡ o

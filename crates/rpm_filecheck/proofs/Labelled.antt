@@ -1,7 +1,7 @@
 -- The map of labels, and what is read of a blob.
 use Rattle.std.proofs.Common.{◌≡◌, ℕ, List, [], Option, Ok, unwrap_or, Some, ap, ◌∙◌}
 use Rattle.std.specs.Prelude.{Vec, Result}
-use Rattle.rpm_filecheck.proofs.Vocabulary.{find, Found, Global, Header, header, header-own, HeaderFault, insert_entry, is_at, Labels, lookup, nat_cmp}
+use Rattle.rpm_filecheck.proofs.Vocabulary.{find, GatheredFiles, Global, Header, header, header-own, HeaderFault, insert_entry, is_at, Labels, lookup, nat_cmp}
 use Rattle.rpm_filecheck.proofs.Vocabulary.{option_map, package_of, put, read_as, with_header, with_package, with_read}
 use Rattle.rpm_filecheck.proofs.Placing.{seen_as, seen-insert_entry, lookup-seen}
 
@@ -20,7 +20,7 @@ text_of n o es view is same =
     ∙ ap (find nat_cmp n) same)
 
 -- a header that is read from a blob is read again from its own bytes
-pub with-own : (n : ℕ) (blob : List ℕ) (h : Header) (f : Found) → header blob ≡ Ok h → with_package n (package_of (Some blob)) f ≡ with_header n h f
+pub with-own : (n : ℕ) (blob : List ℕ) (h : Header) (f : GatheredFiles) → header blob ≡ Ok h → with_package n (package_of (Some blob)) f ≡ with_header n h f
 with-own n blob h f is =
     ap (λ (r : Result Header HeaderFault). with_package n (read_as r) f) is
     ∙ ap (λ (r : Result Header HeaderFault). with_read n r f) (header-own blob h is)

@@ -1,24 +1,24 @@
 -- The words of proofs, from one place.
-pub use Rattle.rpm_db.specs.Above.{all_above_zero, both_true, is_below, next_above, none_below, none_is, nothing_above}
-pub use Rattle.rpm_db.specs.Database.{cost, cost_all, cost_to, Database, IsNext, Keeps}
-pub use Rattle.rpm_db.specs.Frame.{room}
-pub use Rattle.rpm_db.specs.Own.{header-own}
-pub use Rattle.rpm_db.specs.PackageLaws.{cost_more, cost_some, is_there}
+pub use Rattle.rpm_db.specs.laws.Above.{all_above_zero, both_true, is_below, next_above, none_below, none_is, nothing_above}
+pub use Rattle.rpm_db.specs.Database.{package_cost, packages_cost, packages_cost_to, Database, IsNext, Keeps}
+pub use Rattle.rpm_db.specs.Database.{store_of}
+pub use Rattle.rpm_db.specs.laws.Own.{header-own}
+pub use Rattle.rpm_db.specs.laws.PackageLaws.{cost_more, cost_some, is_there}
 pub use Rattle.rpm_db.specs.State.{above, Bad, Good, Package, package_of, packages, read_as}
-pub use Rattle.rpm_filecheck.specs.Conflicts.{all_paths, as_owner, bad_of, files_of, files_read, IsReport, label, label_at, label_of, label_read, own_paths}
+pub use Rattle.rpm_filecheck.specs.Conflicts.{all_paths, as_owner, bad_of, files_of, files_read, IsReport, conflict_label, label_at, label_of, label_read, own_paths}
 pub use Rattle.rpm_filecheck.specs.Conflicts.{owner_of, owners, path_order}
-unfoldable pub use Rattle.rpm_filecheck.specs.Conflicts.{bad, conflicts, owned}
-pub use Rattle.rpm_filecheck.specs.Files.{beside, Facts, files, OwnFile, said_of}
+unfoldable pub use Rattle.rpm_filecheck.specs.Conflicts.{bad, conflicts, owned_paths}
+pub use Rattle.rpm_filecheck.specs.Files.{beside_facts, Facts, files, OwnFile, said_of}
 pub use Rattle.rpm_filecheck.specs.Owners.{Conflict, conflicts_on, conflicts_with, is_conflict, is_directory, is_ghost, may_share, Owner}
 pub use Rattle.rpm_filecheck.specs.inner.Alike.{agrees, is_alike}
-pub use Rattle.rpm_filecheck.specs.inner.Gathered.{Found, joined, joined_to, key_order, Labels, last_from, nothing, Paths, with_files, with_header}
+pub use Rattle.rpm_filecheck.specs.inner.Gathered.{GatheredFiles, owners_with, joined_to, key_order, Labels, last_from, no_files, OwnedPaths, with_files, with_header}
 pub use Rattle.rpm_filecheck.specs.inner.Gathered.{with_owner, with_package, with_packages, with_read, with_some}
 pub use Rattle.rpm_header.specs.Header.{Header, header}
 pub use Rattle.rpm_header.specs.declared.form.HeaderFault.{HeaderFault}
 pub use Rattle.rpm_outside.specs.Files.{Files, Units}
-pub use Rattle.rpm_outside.specs.Looks.{Looks}
+pub use Rattle.rpm_outside.specs.Looks.{OnlyReads}
 pub use Rattle.rpm_outside.specs.declared.disk.File.TheVariants.{Pkg}
-pub use Rattle.rpm_outside.specs.inner.Looking.{looks_more, looks_none, looks_then}
+pub use Rattle.rpm_outside.specs.laws.Looking.{looks_more, looks_none, looks_then}
 pub use Rattle.std.specs.BTreeMap.{insert_entry, is_at}
 pub use Rattle.std.specs.Cmp.{unsigned_tied}
 pub use Rattle.std.specs.Cmp.Lexicographic.{nat_list_cmp_total}

@@ -52,12 +52,13 @@ abbrev pub path_order : List ℕ → List ℕ → Ordering
 path_order = slice_cmp nat_cmp
 
 -- each path, with its owners by rising number
-unfoldable pub owned : FinMap nat_cmp Package → FinMap path_order (List Owner)
-owned packages = from_entries (map (λ path. (path, owners path (entries packages))) (all_paths (entries packages)))
+unfoldable pub owned_paths : FinMap nat_cmp Package → FinMap path_order (List Owner)
+owned_paths packages =
+    from_entries (map (λ path. (path, owners path (entries packages))) (all_paths (entries packages)))
 
 -- a database has these conflicts, by path, then by the first number, then by the second
 unfoldable pub conflicts : FinMap nat_cmp Package → List Conflict
-conflicts packages = flat_map (λ e. conflicts_on e.0 e.1) (entries (owned packages))
+conflicts packages = flat_map (λ e. conflicts_on e.0 e.1) (entries (owned_paths packages))
 
 -- ---- what goes with them
 
@@ -71,17 +72,17 @@ unfoldable pub bad : FinMap nat_cmp Package → List ℕ
 bad packages = flat_map bad_of (entries packages)
 
 -- the first text of a value, as a format without width prints it
-abbrev pub printed : Option Elements → List ℕ
-printed (Some (TextList (text ∷ texts))) = text
-printed _ = codes "(none)"
+abbrev pub printed_text : Option Elements → List ℕ
+printed_text (Some (TextList (text ∷ texts))) = text
+printed_text _ = codes "(none)"
 
 -- what is printed of a header as its label
-abbrev pub label : Header → List ℕ
-label h = printed (value h 0 Nvra)
+abbrev pub conflict_label : Header → List ℕ
+conflict_label h = printed_text (value h 0 Nvra)
 
 -- bytes have the label of their header: none where they are no header
 abbrev pub label_read : Result Header HeaderFault → Option (List ℕ)
-label_read (Ok h) = Some (label h)
+label_read (Ok h) = Some (conflict_label h)
 label_read (Err fault) = None
 
 -- a package has the label of its header: none where it is Bad

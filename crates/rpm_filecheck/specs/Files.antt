@@ -4,7 +4,7 @@ use Rattle.std.specs.Str.{bytes_eq}
 use Rattle.rpm_header.specs.Header.{Header}
 use Rattle.rpm_tags.specs.declared.tag.Tag.TheVariants.{Filenames}
 use Rattle.rpm_tags.specs.Value.{Elements, text_list, texts_in, numbers_in, value}
-use Rattle.rpm_tags.specs.Wanted.{listed, first_or}
+use Rattle.rpm_tags.specs.Wanted.{list_or_empty, first_or}
 
 -- the tag of the modes
 abbrev pub FILEMODES : ℕ
@@ -45,34 +45,40 @@ pub record Columns : Type 0 where
 unfoldable pub columns : Header → Columns
 columns h =
     record {
-      modes = listed (numbers_in h FILEMODES);
-      digests = listed (texts_in h FILEDIGESTS);
-      links = listed (texts_in h FILELINKTOS);
-      flags = listed (numbers_in h FILEFLAGS);
+      modes = list_or_empty (numbers_in h FILEMODES);
+      digests = list_or_empty (texts_in h FILEDIGESTS);
+      links = list_or_empty (texts_in h FILELINKTOS);
+      flags = list_or_empty (numbers_in h FILEFLAGS);
     }
 
 -- the first of each, or 0 and the empty text
 abbrev pub first_facts : Columns → Facts
 first_facts c =
-    record { mode = first_or 0 c.modes; digest = first_or [] c.digests; link = first_or [] c.links; flags = first_or 0 c.flags }
+    record {
+      mode = first_or 0 c.modes;
+      digest = first_or [] c.digests;
+      link = first_or [] c.links;
+      flags = first_or 0 c.flags;
+    }
 
 -- the columns without their first elements
 abbrev pub rest_of : Columns → Columns
-rest_of c = record { modes = drop 1 c.modes; digests = drop 1 c.digests; links = drop 1 c.links; flags = drop 1 c.flags }
+rest_of c =
+    record { modes = drop 1 c.modes; digests = drop 1 c.digests; links = drop 1 c.links; flags = drop 1 c.flags }
 
 -- each path with the facts at its place
-abbrev pub beside : List (List ℕ) → Columns → List OwnFile
-beside [] c = []
-beside (path ∷ paths) c = record { path = path; facts = first_facts c } ∷ beside paths (rest_of c)
+abbrev pub beside_facts : List (List ℕ) → Columns → List OwnFile
+beside_facts [] c = []
+beside_facts (path ∷ paths) c = record { path = path; facts = first_facts c } ∷ beside_facts paths (rest_of c)
 
 -- the texts of a value, or none
-abbrev pub texts_of : Option Elements → List (List ℕ)
-texts_of None = []
-texts_of (Some v) = text_list v
+abbrev pub texts_or_none : Option Elements → List (List ℕ)
+texts_or_none None = []
+texts_or_none (Some v) = text_list v
 
 -- the files of a header, in its order
 unfoldable pub files : Header → List OwnFile
-files h = beside (texts_of (value h 0 Filenames)) (columns h)
+files h = beside_facts (texts_or_none (value h 0 Filenames)) (columns h)
 
 -- what is said of a path: the facts at the first place that has it
 abbrev pub said_of : List ℕ → List OwnFile → Option Facts

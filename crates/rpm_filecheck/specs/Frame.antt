@@ -4,13 +4,15 @@ use Rattle.rpm_outside.specs.declared.disk.Disk as disk
 use Rattle.rpm_outside.specs.declared.disk.File.TheVariants.{Pkg}
 use Rattle.rpm_outside.specs.Frame as outside
 use Rattle.rpm_db.specs.Database.{Database}
-use Rattle.rpm_db.specs.Frame.{Kept}
+use Rattle.rpm_db.specs.Frame.{IsStoreKept}
 use Rattle.rpm_filecheck.specs.declared.fault.FileCheckFault.{FileCheckFault}
 use Rattle.rpm_filecheck.specs.declared.fault.FileCheckFault.TheVariants as fault
 
 module _ {D : Type 0} (d : disk.Ghosts D) where
-  -- a database was asked: it can be asked further, at most so many bytes of its packages were read, and a fault has its cause
-  pub record Asks {X : Type 0} (most : ℕ) (old new : D) (db : Database) (result : Result X FileCheckFault) : Type 0 where
-    pub kept : Kept d new db
-    pub looks : outside.Looks d Pkg most old new
+  -- a database was asked: it can be asked further, at most so many bytes of its packages were read, and a fault has its
+  -- cause
+  pub record FileQuestion {X : Type 0} (most : ℕ) (old new : D) (db : Database)
+      (result : Result X FileCheckFault) : Type 0 where
+    pub kept : IsStoreKept d new db
+    pub looks : outside.OnlyReads d Pkg most old new
     pub cause : outside.DiskFault d (result ≡ Err fault.DiskFault) old new

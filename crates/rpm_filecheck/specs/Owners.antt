@@ -30,8 +30,8 @@ conflict path a b =
     }
 
 -- something differs
-abbrev pub differs : Conflict → Bool
-differs c = c.digest || (c.mode || c.link)
+abbrev pub owners_differ : Conflict → Bool
+owners_differ c = c.digest || (c.mode || c.link)
 
 -- bits 12 to 15 of the mode are 4
 abbrev pub is_directory : Facts → Bool
@@ -47,7 +47,7 @@ may_share a b = (is_directory a && is_directory b) || (is_ghost a || is_ghost b)
 
 -- the two files may not share the path, and they differ
 abbrev pub is_conflict : List ℕ → Owner → Owner → Bool
-is_conflict path a b = not (may_share a.facts b.facts) && differs (conflict path a b)
+is_conflict path a b = not (may_share a.facts b.facts) && owners_differ (conflict path a b)
 
 -- an owner has these conflicts with the owners of a list
 abbrev pub conflicts_with : List ℕ → Owner → List Owner → List Conflict

@@ -1,7 +1,7 @@
 //! What a header says of its files, one after the other.
 
 ghost use Rattle.std.specs.Prelude.{◌≡◌, [], drop, slice_get, IfOk};
-ghost use Rattle.rpm_filecheck.specs.Prelude.{columns, first_facts, first_or, listed, numbers_in, option_copied, rest_of, texts_in};
+ghost use Rattle.rpm_filecheck.specs.Prelude.{columns, first_facts, first_or, list_or_empty, numbers_in, option_copied, rest_of, texts_in};
 ghost use Rattle.rpm_filecheck.specs.Files as model;
 
 use crate::owner::Owner;
@@ -30,7 +30,7 @@ pub struct Columns<'a> {
 impl<'a> Model for Columns<'a> {
     ghost Value = { model.Columns };
 
-    ghost view = { λ s. record { modes = listed s.modes; digests = listed s.digests; links = listed s.links; flags = listed s.flags } };
+    ghost view = { λ s. record { modes = list_or_empty s.modes; digests = list_or_empty s.digests; links = list_or_empty s.links; flags = list_or_empty s.flags } };
 }
 
 /// The numbers of a tag.
@@ -49,8 +49,8 @@ fn texts<'a>(view: &View<'a>, tag: u32) -> Option<TextIter<'a>>
 
 /// The next of some numbers, or 0.
 fn take_number(numbers: &mut Option<NumberIter<'_>>) -> u64
-    ensures value { result ≡ first_or 0 (listed numbers.old) }
-    ensures left { listed numbers.new ≡ drop 1 (listed numbers.old) }
+    ensures value { result ≡ first_or 0 (list_or_empty numbers.old) }
+    ensures left { list_or_empty numbers.new ≡ drop 1 (list_or_empty numbers.old) }
 {
     match numbers {
         None => 0,
@@ -60,8 +60,8 @@ fn take_number(numbers: &mut Option<NumberIter<'_>>) -> u64
 
 /// The next of some texts, where there are texts.
 fn next_text<'a>(texts: &mut Option<TextIter<'a>>) -> Option<&'a [u8]>
-    ensures value { option_copied result ≡ slice_get (listed texts.old) 0 }
-    ensures left { listed texts.new ≡ drop 1 (listed texts.old) }
+    ensures value { option_copied result ≡ slice_get (list_or_empty texts.old) 0 }
+    ensures left { list_or_empty texts.new ≡ drop 1 (list_or_empty texts.old) }
 {
     match texts {
         None => None,
@@ -71,8 +71,8 @@ fn next_text<'a>(texts: &mut Option<TextIter<'a>>) -> Option<&'a [u8]>
 
 /// The next of some texts, or the empty text.
 fn take_text<'a>(texts: &mut Option<TextIter<'a>>) -> &'a [u8]
-    ensures value { result.now ≡ first_or [] (listed texts.old) }
-    ensures left { listed texts.new ≡ drop 1 (listed texts.old) }
+    ensures value { result.now ≡ first_or [] (list_or_empty texts.old) }
+    ensures left { list_or_empty texts.new ≡ drop 1 (list_or_empty texts.old) }
 {
     match next_text(texts) {
         None => &[],

@@ -1,7 +1,7 @@
 //! What was found in the packages so far.
 
 ghost use Rattle.std.specs.Prelude.{◌≡◌, OnOk, Some};
-ghost use Rattle.rpm_filecheck.specs.Prelude.{nothing, package_of, with_bad, with_header, with_package};
+ghost use Rattle.rpm_filecheck.specs.Prelude.{no_files, package_of, with_bad, with_header, with_package};
 ghost use Rattle.rpm_filecheck.specs.inner.Gathered as model;
 
 use crate::labels::{Labels, label_of};
@@ -20,14 +20,14 @@ pub struct Found {
 }
 
 impl Model for Found {
-    ghost Value = { model.Found };
+    ghost Value = { model.GatheredFiles };
 
     ghost view = { λ s. record { paths = s.owned; labels = s.labels; bad = s.bad.items } };
 }
 
 impl Found {
     pub fn new(alloc: Global) -> Found
-        ensures { result ≡ nothing }
+        ensures { result ≡ no_files }
     {
         Found {
             owned: Owned::new(alloc),

@@ -1,7 +1,7 @@
 //! Going through all packages.
 
 ghost use Rattle.std.specs.Prelude.{◌≡◌, IsTrue, true, false, OnOk, IfOk};
-ghost use Rattle.rpm_filecheck.specs.Prelude.{Asks, cost, cost_all, Kept, nothing, packages_in, with_packages, with_some};
+ghost use Rattle.rpm_filecheck.specs.Prelude.{FileQuestion, package_cost, packages_cost, IsStoreKept, no_files, packages_in, with_packages, with_some};
 ghost use Rattle.std.specs.FinMap as finite;
 ghost use Rattle.rpm_db.specs.Database as database;
 
@@ -22,11 +22,11 @@ fn add_package<D: Disk>(
     number: u32,
     room: &mut Vec<u8>,
 ) -> Result<(), FileCheckFault>
-    requires keeps { Kept D.Disk disk.old db.now }
+    requires keeps { IsStoreKept D.Disk disk.old db.now }
     requires runs { db.now.stopped ≡ false }
     requires there { database.holds number db.now ≡ true }
     ensures found { OnOk result (IsTrue D.tells → found.new ≡ with_some number (finite.get (packages_in D.Disk disk.old db.now) number) found.old) }
-    ensures asks { Asks D.Disk (cost number db.now) disk.old disk.new db.now result }
+    ensures asks { FileQuestion D.Disk (package_cost number db.now) disk.old disk.new db.now result }
 {
     match db.read_in(disk, number, replace(room, Vec::new(alloc))) {
         Ok(blob) => {
@@ -43,10 +43,10 @@ fn add_package<D: Disk>(
 
 /// What is found in all packages. Reads the blocks of each, once.
 pub fn gather<D: Disk>(alloc: Global, db: &Db, disk: &mut D) -> Result<Found, FileCheckFault>
-    requires keeps { Kept D.Disk disk.old db.now }
+    requires keeps { IsStoreKept D.Disk disk.old db.now }
     requires runs { db.now.stopped ≡ false }
-    ensures found { IfOk result (λ found. IsTrue D.tells → found ≡ with_packages (finite.entries (packages_in D.Disk disk.old db.now)) nothing) }
-    ensures asks { Asks D.Disk (cost_all db.now) disk.old disk.new db.now result }
+    ensures found { IfOk result (λ found. IsTrue D.tells → found ≡ with_packages (finite.entries (packages_in D.Disk disk.old db.now)) no_files) }
+    ensures asks { FileQuestion D.Disk (packages_cost db.now) disk.old disk.new db.now result }
 {
     let mut found = Found::new(alloc);
     let mut room = Vec::new(alloc);

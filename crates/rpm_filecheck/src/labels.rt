@@ -1,7 +1,7 @@
 //! The labels of packages.
 
 ghost use Rattle.std.specs.Prelude.{◌≡◌, [], OnOk, IfOk, unwrap_or, List, ℕ, map};
-ghost use Rattle.rpm_filecheck.specs.Prelude.{find, insert_entry, label, nat_cmp, put};
+ghost use Rattle.rpm_filecheck.specs.Prelude.{find, insert_entry, conflict_label, nat_cmp, put};
 
 use crate::columns::copy;
 use crate::paths::bytes_of;
@@ -61,7 +61,7 @@ impl Labels {
 /// The label of a header: its name, version and release with its architecture, or `(none)` where one of the first
 /// three is missing.
 pub fn label_of(alloc: Global, view: &View<'_>, number: u32) -> Result<Vec<u8>, AllocError>
-    ensures { IfOk result (λ text. text.items ≡ label view.now) }
+    ensures { IfOk result (λ text. text.items ≡ conflict_label view.now) }
 {
     match value(view, number, Tag::Nvra) {
         None => copy(alloc, b"(none)"),

@@ -1,7 +1,7 @@
 //! The owners of a path.
 
 ghost use Rattle.std.specs.Prelude.{◌≡◌, ◌∷◌, [], OnOk, List};
-ghost use Rattle.rpm_filecheck.specs.Prelude.{is_directory, is_ghost, joined, last_from, may_share};
+ghost use Rattle.rpm_filecheck.specs.Prelude.{is_directory, is_ghost, owners_with, last_from, may_share};
 ghost use Rattle.rpm_filecheck.specs.Owners as model;
 
 use std::alloc::{AllocError, Global};
@@ -76,7 +76,7 @@ impl Owners {
 
     /// Puts an owner after them, where it isn't the package of the last.
     pub fn join(&mut self, owner: Owner) -> Result<(), AllocError>
-        ensures { OnOk result (self.new ≡ joined self.old owner) }
+        ensures { OnOk result (self.new ≡ owners_with self.old owner) }
     {
         let number = owner.number;
         if self.last == number {

@@ -1,7 +1,7 @@
 //! The paths of a package, put among those of others.
 
 ghost use Rattle.std.specs.Prelude.{◌≡◌, OnOk, IfOk};
-ghost use Rattle.rpm_filecheck.specs.Prelude.{beside, class_of, concat, files, text_list, with_files};
+ghost use Rattle.rpm_filecheck.specs.Prelude.{beside_facts, class_of, concat, files, text_list, with_files};
 
 use crate::columns::Columns;
 use crate::owned::Owned;
@@ -30,7 +30,7 @@ fn add_paths(
     paths: ValueTexts<'_, '_>,
     columns: Columns<'_>,
 ) -> Result<(), AllocError>
-    ensures { OnOk result (owned.new ≡ with_files number (beside paths.entry columns.entry) owned.old) }
+    ensures { OnOk result (owned.new ≡ with_files number (beside_facts paths.entry columns.entry) owned.old) }
 {
     let mut columns = columns;
     for path in paths {
@@ -52,7 +52,7 @@ fn add_far(
     columns: Columns<'_>,
 ) -> Result<(), AllocError>
     requires { class_of paths.now ≡ Class.Text }
-    ensures { OnOk result (owned.new ≡ with_files number (beside (text_list paths.now) columns.entry) owned.old) }
+    ensures { OnOk result (owned.new ≡ with_files number (beside_facts (text_list paths.now) columns.entry) owned.old) }
 {
     let mut room = PlacesRoom::new();
     add_paths(alloc, owned, number, paths.texts(Some(&mut room)), columns)

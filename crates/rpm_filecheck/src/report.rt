@@ -1,7 +1,7 @@
 //! The report of all conflicts.
 
 ghost use Rattle.std.specs.Prelude.{◌≡◌, ◌<◌, [], IsTrue, false, Some, IfOk, length, slice_get, unwrap_or};
-ghost use Rattle.rpm_filecheck.specs.Prelude.{Asks, cost_all, IsReport, Kept, packages_in, told_label};
+ghost use Rattle.rpm_filecheck.specs.Prelude.{FileQuestion, packages_cost, IsReport, IsStoreKept, packages_in, told_label};
 ghost use Rattle.rpm_filecheck.specs.Conflicts as model;
 
 use crate::conflict::Conflict;
@@ -78,10 +78,10 @@ pub fn conflicts<D: Disk>(
     db: &Db,
     disk: &mut D,
 ) -> Result<ConflictList, FileCheckFault>
-    requires keeps { Kept D.Disk disk.old db.now }
+    requires keeps { IsStoreKept D.Disk disk.old db.now }
     requires runs { db.now.stopped ≡ false }
     ensures told { IfOk result (λ report. IsTrue D.tells → IsReport (packages_in D.Disk disk.old db.now) report) }
-    ensures asks { Asks D.Disk (cost_all db.now) disk.old disk.new db.now result }
+    ensures asks { FileQuestion D.Disk (packages_cost db.now) disk.old disk.new db.now result }
 {
     let found = gather(alloc, db, disk)?;
     let Found { owned, labels, bad } = found;

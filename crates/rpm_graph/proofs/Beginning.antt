@@ -1,7 +1,7 @@
 -- A listing that has listed nothing.
 use Rattle.std.proofs.Common.{◌≡◌, ℕ, false, List, [], zero, suc, length, get_or, replicate, refl, sym, ap, subst, ◌∙◌, arith}
 use Rattle.std.proofs.lemmas.List.{length-replicate, length-map}
-use Rattle.rpm_graph.proofs.Vocabulary.{Goes, IsBegun, IsUnderway, listed_at, Listing}
+use Rattle.rpm_graph.proofs.Vocabulary.{IsEdge, IsBegun, IsUnderway, listed_at, Listing}
 use Rattle.rpm_graph.proofs.Rowing.{no_goes}
 
 at_replicate : {A : Type 0} (n v : ℕ) (x : A) → get_or (replicate n x) v x ≡ x
@@ -21,6 +21,6 @@ begun ends leasts s count is b =
       listed_long = ap length b.listed ∙ length-replicate count false ∙ sym is;
       checked_in = λ c. omega (arith, zero_at c);
       checked = λ c i lt. absurd (omega (arith, zero_at c, lt));
-      waits = λ d c goes. absurd (no_goes count d c (subst (λ l. Goes l d c) b.waiting goes));
+      waits = λ d c goes. absurd (no_goes count d c (subst (λ l. IsEdge l d c) b.waiting goes));
       ready = λ n c has. absurd (omega (arith, has.1, ap length b.ready));
     }

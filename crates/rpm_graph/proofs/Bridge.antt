@@ -1,6 +1,6 @@
 -- From places and their classes to the classes of a graph's numbers.
 use Rattle.std.proofs.Common.{◌≡◌, ℕ, ◌≤◌, ◌<◌, List, [], ◌∷◌, length, get_or, map, inl, inr, sym, ap, subst, ◌∙◌, arith}
-use Rattle.rpm_graph.proofs.Vocabulary.{AreTogether, Contains, Edge, edge, edge_at, Goes, HasEdge, HaveEdges, HaveMembers, IsClass, IsNetwork, IsSplit}
+use Rattle.rpm_graph.proofs.Vocabulary.{AreTogether, Contains, Edge, edge, edge_at, IsEdge, HasEdge, HaveEdges, HaveMembers, IsClass, IsNetwork, IsSplit}
 use Rattle.rpm_graph.proofs.Vocabulary.{IsWalk, Network}
 use Rattle.std.proofs.lemmas.Bool.{cases_lt}
 use Rattle.std.proofs.lemmas.List.{get_or_default}
@@ -20,13 +20,13 @@ module _ (g : Network) (net : IsNetwork g) (rows : List (List ℕ)) (have : Have
   ]
 
   -- an edge ends at a place that the row of its number has
-  pub edge_row : (v m : ℕ) → v < length g.numbers → HasEdge g (number v) m → (w : ℕ) × (w < length g.numbers) × (number w ≡ m) × Goes rows v w
+  pub edge_row : (v m : ℕ) → v < length g.numbers → HasEdge g (number v) m → (w : ℕ) × (w < length g.numbers) × (number w ≡ m) × IsEdge rows v w
   edge_row v m v_in (k, lt, is) =
       let at : edge_at g.edges k ≡ edge (number v) m = get_or_default g.edges k (edge 0 0) (edge (number v) m) lt ∙ is in
       let found = have.there k lt in
       let begins : found.0 ≡ v = same_place found.0 v found.2 v_in (found.3 ∙ ap (λ (e : Edge). e.from) at) in
       let inside : found.1 < length g.numbers = omega (arith, have.within found.0 found.1 found.5, have.sized) in
-      (found.1, inside, found.4 ∙ ap (λ (e : Edge). e.to) at, subst (λ x. Goes rows x found.1) begins found.5)
+      (found.1, inside, found.4 ∙ ap (λ (e : Edge). e.to) at, subst (λ x. IsEdge rows x found.1) begins found.5)
 
   -- its class is no higher
   edge_falls : (v m : ℕ) → v < length g.numbers → HasEdge g (number v) m
@@ -43,7 +43,7 @@ module _ (g : Network) (net : IsNetwork g) (rows : List (List ℕ)) (have : Have
       let rest = walk_falls next.0 w walk next.1 w_in (subst (λ x. IsWalk (HasEdge g) x walk (number w)) (sym next.2) steps.1) in
       omega (arith, rest, next.3)
 
-  walk_of : (v w : ℕ) (walk : List ℕ) → IsWalk (Goes rows) v walk w → IsWalk (HasEdge g) (number v) (map number walk) (number w)
+  walk_of : (v w : ℕ) (walk : List ℕ) → IsWalk (IsEdge rows) v walk w → IsWalk (HasEdge g) (number v) (map number walk) (number w)
   walk_of v w [] is = ap number is
   walk_of v w (x ∷ walk) steps = (have.back v x steps.0, walk_of x w walk steps.1)
 

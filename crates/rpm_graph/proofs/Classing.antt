@@ -2,14 +2,14 @@
 use Rattle.std.proofs.Common.{◌≡◌, ℕ, ◌+◌, ◌<◌, ◌⊎◌, List, [], length, get_or, inl, inr, sym, subst, ◌∙◌, arith}
 use Rattle.std.proofs.lemmas.Bool.{cases_lt}
 use Rattle.std.proofs.lemmas.List.{get_or_default}
-use Rattle.rpm_graph.proofs.Vocabulary.{AreFalling, GainEnds, Goes, HaveEnds, IsSplit}
+use Rattle.rpm_graph.proofs.Vocabulary.{AreFalling, GainEnds, IsEdge, HaveEnds, IsSplit}
 
 module _ (rows : List (List ℕ)) (classes : List ℕ) (k : ℕ) (before after : List (List ℕ)) (have : HaveEnds rows classes k before)
     (gain : GainEnds classes (get_or classes k 0) (get_or rows k []) (length (get_or rows k [])) before after) where
   abbrev row : List ℕ
   row = get_or rows k []
 
-  there_then : (v w : ℕ) → v < k + 1 → Goes rows v w → (get_or classes w 0 ≡ get_or classes v 0) ⊎ Goes after (get_or classes v 0) (get_or classes w 0)
+  there_then : (v w : ℕ) → v < k + 1 → IsEdge rows v w → (get_or classes w 0 ≡ get_or classes v 0) ⊎ IsEdge after (get_or classes v 0) (get_or classes w 0)
   there_then v w lt goes = elim (cases_lt v k) [
     | inl less ↦ elim (have.there v w less goes) [
       | inl own ↦ inl own
@@ -17,15 +17,15 @@ module _ (rows : List (List ℕ)) (classes : List ℕ) (k : ℕ) (before after :
     ]
     | inr end ↦
         let here : v ≡ k = omega (arith, lt, end) in
-        let at : Goes rows k w = subst (λ x. Goes rows x w) here goes in
+        let at : IsEdge rows k w = subst (λ x. IsEdge rows x w) here goes in
         let is : get_or row at.0 0 ≡ w = get_or_default row at.0 0 w at.1 ∙ at.2 in
-        let found : (get_or classes w 0 ≡ get_or classes k 0) ⊎ Goes after (get_or classes k 0) (get_or classes w 0)
-        = subst (λ x. (get_or classes x 0 ≡ get_or classes k 0) ⊎ Goes after (get_or classes k 0) (get_or classes x 0)) is (gain.there at.0 at.1) in
-        subst (λ x. (get_or classes w 0 ≡ get_or classes x 0) ⊎ Goes after (get_or classes x 0) (get_or classes w 0)) (sym here) found
+        let found : (get_or classes w 0 ≡ get_or classes k 0) ⊎ IsEdge after (get_or classes k 0) (get_or classes w 0)
+        = subst (λ x. (get_or classes x 0 ≡ get_or classes k 0) ⊎ IsEdge after (get_or classes k 0) (get_or classes x 0)) is (gain.there at.0 at.1) in
+        subst (λ x. (get_or classes w 0 ≡ get_or classes x 0) ⊎ IsEdge after (get_or classes x 0) (get_or classes w 0)) (sym here) found
   ]
 
-  back_then : (c d : ℕ) → Goes after c d
-      → (v : ℕ) × (w : ℕ) × (v < k + 1) × Goes rows v w × (get_or classes v 0 ≡ c) × (get_or classes w 0 ≡ d) × (d ≡ c → ⊥)
+  back_then : (c d : ℕ) → IsEdge after c d
+      → (v : ℕ) × (w : ℕ) × (v < k + 1) × IsEdge rows v w × (get_or classes v 0 ≡ c) × (get_or classes w 0 ≡ d) × (d ≡ c → ⊥)
   back_then c d goes = elim (gain.only c d goes) [
     | inl old ↦ let was = have.back c d old in (was.0, was.1, omega (arith, was.2), was.3, was.4, was.5, was.6)
     | inr new ↦

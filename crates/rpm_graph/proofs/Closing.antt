@@ -1,6 +1,6 @@
 -- The search without its last level, all of whose edges were looked at: it is a class.
 use Rattle.std.proofs.Common.{◌≡◌, ℕ, ◌+◌, ◌-◌, ◌≤◌, ◌<◌, ◌⊎◌, List, length, get_or, take, drop, inl, inr, sym, ◌∙◌, arith}
-use Rattle.rpm_graph.proofs.Vocabulary.{AreWithin, Contains, Goes, IsLast, IsMarked, IsNoHigher, IsOpen, IsSearch, KeepsSeen, Leads, Link, link_at, unseen}
+use Rattle.rpm_graph.proofs.Vocabulary.{AreWithin, Contains, IsEdge, IsLastRoot, IsMarked, IsNoHigher, IsOnPath, IsSearch, KeepsSeen, Leads, Link, link_at, unseen}
 use Rattle.rpm_graph.proofs.Vocabulary.{unseen_count}
 use Rattle.std.proofs.lemmas.List.{get_or-take}
 use Rattle.rpm_graph.proofs.Unseen.{unseen-same}
@@ -8,7 +8,7 @@ use Rattle.rpm_graph.proofs.Level as last_level
 use Rattle.rpm_graph.proofs.Following as following
 
 module _ (rows : List (List ℕ)) (ranks path roots : List ℕ) (pending : List Link) (closed : ℕ) (s : IsSearch rows ranks path roots pending closed)
-    (ends : AreWithin rows) (root : ℕ) (is_last : IsLast roots root) (done : (i : ℕ) → i < length pending → get_or ranks (link_at pending i).from 0 ≤ root)
+    (ends : AreWithin rows) (root : ℕ) (is_last : IsLastRoot roots root) (done : (i : ℕ) → i < length pending → get_or ranks (link_at pending i).from 0 ≤ root)
     (ranks_then : List ℕ) (marked : IsMarked ranks (drop root path) (length ranks + 1 + closed) ranks_then) where
   root_in : root < length path
   root_in = last_level.root_in rows ranks path roots pending closed s root is_last ranks_then marked
@@ -25,18 +25,18 @@ module _ (rows : List (List ℕ)) (ranks path roots : List ℕ) (pending : List 
   highest : (r : ℕ) → Contains roots r → r ≤ root
   highest = last_level.highest rows ranks path roots pending closed s root is_last ranks_then marked
 
-  there : (v : ℕ) → IsOpen (length rows) ranks v → root < get_or ranks v 0 → get_or ranks_then v 0 ≡ length rows + 1 + closed
+  there : (v : ℕ) → IsOnPath (length rows) ranks v → root < get_or ranks v 0 → get_or ranks_then v 0 ≡ length rows + 1 + closed
   there = last_level.there rows ranks path roots pending closed s root is_last ranks_then marked
 
   stays : (v : ℕ) → (get_or ranks v 0 ≤ root) ⊎ (length rows < get_or ranks v 0) → get_or ranks_then v 0 ≡ get_or ranks v 0
   stays = last_level.stays rows ranks path roots pending closed s root is_last ranks_then marked
 
-  kinds : (v : ℕ) → v < length rows → (IsOpen (length rows) ranks v × (root < get_or ranks v 0) × (get_or ranks_then v 0 ≡ length rows + 1 + closed))
+  kinds : (v : ℕ) → v < length rows → (IsOnPath (length rows) ranks v × (root < get_or ranks v 0) × (get_or ranks_then v 0 ≡ length rows + 1 + closed))
       ⊎ ((get_or ranks_then v 0 ≡ get_or ranks v 0) × ((get_or ranks v 0 ≤ root) ⊎ (length rows < get_or ranks v 0)))
   kinds = last_level.kinds rows ranks path roots pending closed s root is_last ranks_then marked
 
-  open_before : (v : ℕ) → IsOpen (length rows) ranks_then v
-      → IsOpen (length rows) ranks v × (get_or ranks v 0 ≤ root) × (get_or ranks_then v 0 ≡ get_or ranks v 0)
+  open_before : (v : ℕ) → IsOnPath (length rows) ranks_then v
+      → IsOnPath (length rows) ranks v × (get_or ranks v 0 ≤ root) × (get_or ranks_then v 0 ≡ get_or ranks v 0)
   open_before = last_level.open_before rows ranks path roots pending closed s root is_last ranks_then marked
 
   same_count : unseen_count ranks_then ≡ unseen_count ranks
@@ -45,8 +45,8 @@ module _ (rows : List (List ℕ)) (ranks path roots : List ℕ) (pending : List 
   path_long : length (take root path) ≡ root
   path_long = last_level.path_long rows ranks path roots pending closed s root is_last ranks_then marked
 
-  walks_then : (x y : ℕ) → IsOpen (length rows) ranks_then x → IsOpen (length rows) ranks_then y
-      → IsNoHigher ranks_then (take (length roots - 1) roots) x y → Leads (Goes rows) x y
+  walks_then : (x y : ℕ) → IsOnPath (length rows) ranks_then x → IsOnPath (length rows) ranks_then y
+      → IsNoHigher ranks_then (take (length roots - 1) roots) x y → Leads (IsEdge rows) x y
   walks_then x y ox oy flat =
       let was_x = open_before x ox in
       let was_y = open_before y oy in
@@ -56,7 +56,7 @@ module _ (rows : List (List ℕ)) (ranks path roots : List ℕ) (pending : List 
       ])
 
   together_then : (x y : ℕ) → x < length rows → y < length rows → length rows < get_or ranks_then x 0
-      → get_or ranks_then x 0 ≡ get_or ranks_then y 0 → Leads (Goes rows) x y
+      → get_or ranks_then x 0 ≡ get_or ranks_then y 0 → Leads (IsEdge rows) x y
   together_then x y x_in y_in over is = elim (kinds x x_in) [
     | inl x_level ↦ elim (kinds y y_in) [
       | inl y_level ↦ s.walks x y x_level.0 y_level.0 (λ r has below. omega (arith, highest r has, y_level.1))

@@ -1,6 +1,6 @@
 -- The search that has entered nothing, and the one that has entered all.
 use Rattle.std.proofs.Common.{◌≡◌, ℕ, ◌+◌, ◌≤◌, ◌<◌, List, [], zero, suc, length, get_or, replicate, refl, ◌∙◌, inl, inr, arith}
-use Rattle.rpm_graph.proofs.Vocabulary.{AreWithin, Contains, Goes, IsOpen, IsSearch, IsSplit, Link, unseen_count}
+use Rattle.rpm_graph.proofs.Vocabulary.{AreWithin, Contains, IsEdge, IsOnPath, IsSearch, IsSplit, Link, unseen_count}
 use Rattle.std.proofs.lemmas.Bool.{cases_lt}
 use Rattle.std.proofs.lemmas.List.{length-replicate}
 use Rattle.rpm_graph.proofs.Fronts.{waits_open}
@@ -40,7 +40,7 @@ fresh rows =
 
 module _ (rows : List (List ℕ)) (ranks path roots : List ℕ) (pending : List Link) (closed : ℕ) (s : IsSearch rows ranks path roots pending closed)
     (empty : length path ≡ 0) where
-  pub none_open : (v : ℕ) → IsOpen (length rows) ranks v → ⊥
+  pub none_open : (v : ℕ) → IsOnPath (length rows) ranks v → ⊥
   none_open v o = let at = s.ranked v o in omega (arith, at.1, empty)
 
   module _ (ends : AreWithin rows) (seen : (v : ℕ) → v < length rows → 1 ≤ get_or ranks v 0) (classes : List ℕ) (sized : length classes ≡ length ranks)
@@ -51,7 +51,7 @@ module _ (rows : List (List ℕ)) (ranks path roots : List ℕ) (pending : List 
       | inr low ↦ absurd (none_open v (record { within = lt; entered = seen v lt; below = low }))
     ]
 
-    falls : (v w : ℕ) → v < length rows → Goes rows v w → get_or classes w 0 ≤ get_or classes v 0
+    falls : (v w : ℕ) → v < length rows → IsEdge rows v w → get_or classes w 0 ≤ get_or classes v 0
     falls v w lt goes = elim (s.looked v w lt (seen v lt) goes) [
       | inl waits ↦ absurd (none_open v (waits_open s v w waits))
       | inr f ↦ let last = f.closed (done v lt) in omega (arith, last.1, lower v lt, lower w (ends v w goes))

@@ -1,6 +1,6 @@
 -- The search with one more place on its path, to which all of the path leads.
 use Rattle.std.proofs.Common.{◌≡◌, ℕ, ◌+◌, ◌≤◌, ◌<◌, ◌++◌, ◌⊎◌, List, [], ◌∷◌, length, get_or, set, map, inl, inr, sym, ap, subst, ◌∙◌, arith}
-use Rattle.rpm_graph.proofs.Vocabulary.{Contains, Follows, Goes, IsNoHigher, IsOpen, IsSearch, Leads, Link, link, unseen, unseen_count}
+use Rattle.rpm_graph.proofs.Vocabulary.{Contains, Follows, IsEdge, IsNoHigher, IsOnPath, IsSearch, Leads, Link, link, unseen, unseen_count}
 use Rattle.std.proofs.lemmas.Bool.{cases_eq}
 use Rattle.std.proofs.lemmas.List.{length_push, length-append, length-map, length-set}
 use Rattle.std.proofs.lemmas.List.Elements.{Contains-append_left, Contains-append_right, Contains-push, Contains-push_cases}
@@ -11,7 +11,7 @@ use Rattle.rpm_graph.proofs.Waiting as waiting
 
 module _ (rows : List (List ℕ)) (ranks path roots : List ℕ) (pending kept : List Link) (closed : ℕ) (s : IsSearch rows ranks path roots pending closed)
     (v : ℕ) (inside : v < length rows) (new : get_or ranks v 0 ≡ 0) (front : IsFront pending kept v)
-    (led : (x : ℕ) → IsOpen (length rows) ranks x → Leads (Goes rows) x v) where
+    (led : (x : ℕ) → IsOnPath (length rows) ranks x → Leads (IsEdge rows) x v) where
   abbrev ranks_then : List ℕ
   ranks_then = set ranks v (length path + 1)
 
@@ -33,25 +33,25 @@ module _ (rows : List (List ℕ)) (ranks path roots : List ℕ) (pending kept : 
   apart : (x : ℕ) → 1 ≤ get_or ranks x 0 → x ≡ v → ⊥
   apart = standing.apart rows ranks path roots pending closed s v inside new
 
-  open_before : (x : ℕ) → (x ≡ v → ⊥) → IsOpen (length rows) ranks_then x → IsOpen (length rows) ranks x
+  open_before : (x : ℕ) → (x ≡ v → ⊥) → IsOnPath (length rows) ranks_then x → IsOnPath (length rows) ranks x
   open_before = standing.open_before rows ranks path roots pending closed s v inside new
 
-  open_then : (x : ℕ) → IsOpen (length rows) ranks x → IsOpen (length rows) ranks_then x
+  open_then : (x : ℕ) → IsOnPath (length rows) ranks x → IsOnPath (length rows) ranks_then x
   open_then = standing.open_then rows ranks path roots pending closed s v inside new
 
-  row_has : (w : ℕ) → Goes rows v w → Contains row (link v w)
+  row_has : (w : ℕ) → IsEdge rows v w → Contains row (link v w)
   row_has = waiting.row_has rows ranks path roots pending kept closed s v inside new front
 
   no_higher_before : (x y : ℕ) → (x ≡ v → ⊥) → (y ≡ v → ⊥) → IsNoHigher ranks_then (roots ++ length path ∷ []) x y → IsNoHigher ranks roots x y
   no_higher_before x y x_differs y_differs flat root has below =
       omega (arith, flat root (Contains-append_left roots (length path ∷ []) root has) (omega (arith, elsewhere x x_differs, below)), elsewhere y y_differs)
 
-  walks_then : (x y : ℕ) → IsOpen (length rows) ranks_then x → IsOpen (length rows) ranks_then y
-      → IsNoHigher ranks_then (roots ++ length path ∷ []) x y → Leads (Goes rows) x y
+  walks_then : (x y : ℕ) → IsOnPath (length rows) ranks_then x → IsOnPath (length rows) ranks_then y
+      → IsNoHigher ranks_then (roots ++ length path ∷ []) x y → Leads (IsEdge rows) x y
   walks_then x y ox oy flat = elim (cases_eq y v) [
     | inl y_is ↦ elim (cases_eq x v) [
       | inl x_is ↦ ([], x_is ∙ sym y_is)
-      | inr differs ↦ subst (λ z. Leads (Goes rows) x z) (sym y_is) (led x (open_before x differs ox))
+      | inr differs ↦ subst (λ z. Leads (IsEdge rows) x z) (sym y_is) (led x (open_before x differs ox))
     ]
     | inr y_differs ↦ elim (cases_eq x v) [
       | inl x_is ↦ let last = flat (length path) (Contains-push roots (length path)) (omega (arith, ap (λ z. get_or ranks_then z 0) x_is, at_place)) in
@@ -61,7 +61,7 @@ module _ (rows : List (List ℕ)) (ranks path roots : List ℕ) (pending kept : 
   ]
 
   together_then : (x y : ℕ) → x < length rows → y < length rows → length rows < get_or ranks_then x 0
-      → get_or ranks_then x 0 ≡ get_or ranks_then y 0 → Leads (Goes rows) x y
+      → get_or ranks_then x 0 ≡ get_or ranks_then y 0 → Leads (IsEdge rows) x y
   together_then x y x_in y_in over is =
       let not_here : (z : ℕ) → length rows < get_or ranks_then z 0 → z ≡ v → ⊥
       = λ z high here. omega (arith, high, ap (λ u. get_or ranks_then u 0) here, at_place, s.path_room, fewer) in
@@ -70,7 +70,7 @@ module _ (rows : List (List ℕ)) (ranks path roots : List ℕ) (pending kept : 
       s.together x y x_in y_in (omega (arith, over, x_same)) (sym x_same ∙ is ∙ y_same)
 
   -- from the path, the place stands at the highest level
-  top : (x : ℕ) → IsOpen (length rows) ranks_then x → Follows (length rows) ranks_then (roots ++ length path ∷ []) x v
+  top : (x : ℕ) → IsOnPath (length rows) ranks_then x → Follows (length rows) ranks_then (roots ++ length path ∷ []) x v
   top x o = record {
     entered = omega (arith, at_place);
     on_path = λ le root has below. elim (Contains-push_cases roots (length path) root has) [
@@ -100,11 +100,11 @@ module _ (rows : List (List ℕ)) (ranks path roots : List ℕ) (pending kept : 
         closed = λ over. let was = f.closed (omega (arith, over, x_same)) in (omega (arith, was.0, w_same), omega (arith, was.1, w_same, x_same));
       }
 
-  looked_then : (x w : ℕ) → x < length rows → 1 ≤ get_or ranks_then x 0 → Goes rows x w
+  looked_then : (x w : ℕ) → x < length rows → 1 ≤ get_or ranks_then x 0 → IsEdge rows x w
       → Contains (kept ++ row) (link x w) ⊎ Follows (length rows) ranks_then (roots ++ length path ∷ []) x w
   looked_then x w lt some goes = elim (cases_eq x v) [
     | inl is ↦ inl (subst (λ z. Contains (kept ++ row) (link z w)) (sym is)
-        (Contains-append_right kept row (link v w) (row_has w (subst (λ z. Goes rows z w) is goes))))
+        (Contains-append_right kept row (link v w) (row_has w (subst (λ z. IsEdge rows z w) is goes))))
     | inr differs ↦ let old : 1 ≤ get_or ranks x 0 = omega (arith, some, elsewhere x differs) in
         elim (s.looked x w lt old goes) [
           | inl waits ↦ elim (kept_or_lost pending kept v front x w waits) [

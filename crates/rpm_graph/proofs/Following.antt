@@ -1,11 +1,11 @@
 -- The search without its last level: where the edges that were looked at go.
 use Rattle.std.proofs.Common.{◌≡◌, ℕ, ◌+◌, ◌-◌, ◌≤◌, ◌<◌, ◌⊎◌, List, length, get_or, take, drop, inl, inr, ap, ◌∙◌, arith}
-use Rattle.rpm_graph.proofs.Vocabulary.{AreWithin, Contains, Follows, Goes, IsLast, IsMarked, IsOpen, IsSearch, Link, link, link_at}
+use Rattle.rpm_graph.proofs.Vocabulary.{AreWithin, Contains, Follows, IsEdge, IsLastRoot, IsMarked, IsOnPath, IsSearch, Link, link, link_at}
 use Rattle.std.proofs.lemmas.List.{get_or_default}
 use Rattle.rpm_graph.proofs.Level as last_level
 
 module _ (rows : List (List ℕ)) (ranks path roots : List ℕ) (pending : List Link) (closed : ℕ) (s : IsSearch rows ranks path roots pending closed)
-    (ends : AreWithin rows) (root : ℕ) (is_last : IsLast roots root) (done : (i : ℕ) → i < length pending → get_or ranks (link_at pending i).from 0 ≤ root)
+    (ends : AreWithin rows) (root : ℕ) (is_last : IsLastRoot roots root) (done : (i : ℕ) → i < length pending → get_or ranks (link_at pending i).from 0 ≤ root)
     (ranks_then : List ℕ) (marked : IsMarked ranks (drop root path) (length ranks + 1 + closed) ranks_then) where
   root_there : Contains roots root
   root_there = last_level.root_there rows ranks path roots pending closed s root is_last ranks_then marked
@@ -13,12 +13,12 @@ module _ (rows : List (List ℕ)) (ranks path roots : List ℕ) (pending : List 
   fewer_in : (r : ℕ) → Contains (take (length roots - 1) roots) r → Contains roots r × (r < root)
   fewer_in = last_level.fewer_in rows ranks path roots pending closed s root is_last ranks_then marked
 
-  kinds : (v : ℕ) → v < length rows → (IsOpen (length rows) ranks v × (root < get_or ranks v 0) × (get_or ranks_then v 0 ≡ length rows + 1 + closed))
+  kinds : (v : ℕ) → v < length rows → (IsOnPath (length rows) ranks v × (root < get_or ranks v 0) × (get_or ranks_then v 0 ≡ length rows + 1 + closed))
       ⊎ ((get_or ranks_then v 0 ≡ get_or ranks v 0) × ((get_or ranks v 0 ≤ root) ⊎ (length rows < get_or ranks v 0)))
   kinds = last_level.kinds rows ranks path roots pending closed s root is_last ranks_then marked
 
   -- an edge of the class ends in it, or in one that was closed before
-  level_follows : (x w : ℕ) → w < length rows → IsOpen (length rows) ranks x → root < get_or ranks x 0
+  level_follows : (x w : ℕ) → w < length rows → IsOnPath (length rows) ranks x → root < get_or ranks x 0
       → get_or ranks_then x 0 ≡ length rows + 1 + closed → Follows (length rows) ranks roots x w
       → Follows (length rows) ranks_then (take (length roots - 1) roots) x w
   level_follows x w w_in o over is f =
@@ -53,7 +53,7 @@ module _ (rows : List (List ℕ)) (ranks path roots : List ℕ) (pending : List 
       let at : link_at pending i ≡ link x w = get_or_default pending i (link 0 0) (link x w) lt ∙ is in
       omega (arith, done i lt, ap (λ (l : Link). get_or ranks l.from 0) at)
 
-  pub looked_then : (x w : ℕ) → x < length rows → 1 ≤ get_or ranks_then x 0 → Goes rows x w
+  pub looked_then : (x w : ℕ) → x < length rows → 1 ≤ get_or ranks_then x 0 → IsEdge rows x w
       → Contains pending (link x w) ⊎ Follows (length rows) ranks_then (take (length roots - 1) roots) x w
   looked_then x w lt some goes = elim (kinds x lt) [
     | inl level ↦ elim (s.looked x w lt level.0.entered goes) [

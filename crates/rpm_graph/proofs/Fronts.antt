@@ -1,6 +1,6 @@
 -- A front of the waiting edges, and places of the path.
 use Rattle.std.proofs.Common.{◌≡◌, ℕ, ◌≤◌, ◌<◌, ◌++◌, ◌⊎◌, List, [], ◌∷◌, length, get_or, inl, inr, refl, sym, ap, ◌∙◌, arith}
-use Rattle.rpm_graph.proofs.Vocabulary.{Contains, IsOpen, IsSearch, Link, link, link_at}
+use Rattle.rpm_graph.proofs.Vocabulary.{Contains, IsOnPath, IsSearch, Link, link, link_at}
 use Rattle.std.proofs.lemmas.Bool.{cases_lt}
 use Rattle.std.proofs.lemmas.List.{get_or_append_left, get_or_push, get_or_default, length_push}
 
@@ -32,11 +32,11 @@ kept_or_lost links kept place front v w (i, lt, is) =
 
 module _ {rows : List (List ℕ)} {ranks path roots : List ℕ} {pending : List Link} {closed : ℕ} (s : IsSearch rows ranks path roots pending closed) where
   -- an open place's rank is a place of the path, from 1 on
-  pub open_rank : (v : ℕ) → IsOpen (length rows) ranks v → get_or ranks v 0 ≤ length path
+  pub open_rank : (v : ℕ) → IsOnPath (length rows) ranks v → get_or ranks v 0 ≤ length path
   open_rank v is_open = let at = s.ranked v is_open in omega (arith, at.1, at.2)
 
   -- an edge that waits begins at an open place
-  pub waits_open : (v w : ℕ) → Contains pending (link v w) → IsOpen (length rows) ranks v
+  pub waits_open : (v w : ℕ) → Contains pending (link v w) → IsOnPath (length rows) ranks v
   waits_open v w (i, lt, is) =
       let at : link_at pending i ≡ link v w = get_or_default pending i (link 0 0) (link v w) lt ∙ is in
       rw (ap (λ (l : Link). l.from) (sym at)) (s.pending_open i lt).0

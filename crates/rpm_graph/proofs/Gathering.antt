@@ -1,13 +1,13 @@
 -- One more number in the list of its class, and one more end in the row of a class.
 use Rattle.std.proofs.Common.{◌≡◌, ℕ, ◌+◌, ◌<◌, ◌++◌, ◌⊎◌, List, [], ◌∷◌, length, get_or, inl, inr, sym, ap, subst, ◌∙◌, arith}
-use Rattle.rpm_graph.proofs.Vocabulary.{Contains, GainEnds, Goes, HaveMembers, IsRising, with_link}
+use Rattle.rpm_graph.proofs.Vocabulary.{Contains, GainEnds, IsEdge, HaveMembers, IsNumberRising, with_link}
 use Rattle.std.proofs.lemmas.Bool.{cases_lt, cases_eq}
 use Rattle.std.proofs.lemmas.List.{length-set}
 use Rattle.std.proofs.lemmas.List.Elements.{Contains-get_or}
 use Rattle.rpm_graph.proofs.Pushes.{IsRising-push}
 use Rattle.rpm_graph.proofs.Rowing.{goes_new, goes_kept, goes_only, row_here, row_other}
 
-module _ (numbers classes : List ℕ) (rises : IsRising numbers) (k : ℕ) (members : List (List ℕ)) (have : HaveMembers numbers classes k members)
+module _ (numbers classes : List ℕ) (rises : IsNumberRising numbers) (k : ℕ) (members : List (List ℕ)) (have : HaveMembers numbers classes k members)
     (k_in : k < length numbers) (class_in : get_or classes k 0 < length members) where
   there_then : (v : ℕ) → v < k + 1
       → Contains (get_or (with_link members (get_or classes k 0) (get_or numbers k 0)) (get_or classes v 0) []) (get_or numbers v 0)
@@ -18,16 +18,16 @@ module _ (numbers classes : List ℕ) (rises : IsRising numbers) (k : ℕ) (memb
         (goes_new members (get_or classes k 0) (get_or numbers k 0) class_in)
   ]
 
-  rises_then : (c : ℕ) → IsRising (get_or (with_link members (get_or classes k 0) (get_or numbers k 0)) c [])
+  rises_then : (c : ℕ) → IsNumberRising (get_or (with_link members (get_or classes k 0) (get_or numbers k 0)) c [])
   rises_then c = elim (cases_eq c (get_or classes k 0)) [
-    | inl is ↦ subst (λ x. IsRising (get_or (with_link members (get_or classes k 0) (get_or numbers k 0)) x [])) (sym is)
-        (subst IsRising (sym (row_here members (get_or classes k 0) (get_or numbers k 0) class_in))
+    | inl is ↦ subst (λ x. IsNumberRising (get_or (with_link members (get_or classes k 0) (get_or numbers k 0)) x [])) (sym is)
+        (subst IsNumberRising (sym (row_here members (get_or classes k 0) (get_or numbers k 0) class_in))
         (IsRising-push (get_or members (get_or classes k 0) []) (get_or numbers k 0) (have.rises (get_or classes k 0))
         (λ i d lt.
         let n = get_or (get_or members (get_or classes k 0) []) i d in
         let at = have.only (get_or classes k 0) n (Contains-get_or (get_or members (get_or classes k 0) []) i d lt) in
         omega (arith, rises at.0 k at.1 k_in, at.3))))
-    | inr differs ↦ subst IsRising (sym (row_other members (get_or classes k 0) (get_or numbers k 0) class_in c differs)) (have.rises c)
+    | inr differs ↦ subst IsNumberRising (sym (row_other members (get_or classes k 0) (get_or numbers k 0) class_in c differs)) (have.rises c)
   ]
 
   pub members_more : HaveMembers numbers classes (k + 1) (with_link members (get_or classes k 0) (get_or numbers k 0))
@@ -41,7 +41,7 @@ module _ (numbers classes : List ℕ) (rises : IsRising numbers) (k : ℕ) (memb
   }
 
 module _ (classes : List ℕ) (class : ℕ) (row : List ℕ) (k : ℕ) (before after : List (List ℕ)) (gain : GainEnds classes class row k before after) where
-  more_only : (c d : ℕ) → Goes after c d → Goes before c d
+  more_only : (c d : ℕ) → IsEdge after c d → IsEdge before c d
       ⊎ ((c ≡ class) × ((i : ℕ) × (i < k + 1) × (get_or classes (get_or row i 0) 0 ≡ d)) × (d ≡ class → ⊥))
   more_only c d goes = elim (gain.only c d goes) [
     | inl old ↦ inl old
@@ -74,8 +74,8 @@ module _ (classes : List ℕ) (class : ℕ) (row : List ℕ) (k : ℕ) (before a
             | inr goes ↦ inr (goes_kept after class d lt class (get_or classes (get_or row i 0) 0) goes)
           ]
           | inr end ↦ let here : k ≡ i = omega arith in
-              inr (subst (λ j. Goes (with_link after class d) class (get_or classes (get_or row j 0) 0)) here
-              (subst (λ e. Goes (with_link after class d) class e) (sym is) (goes_new after class d lt)))
+              inr (subst (λ j. IsEdge (with_link after class d) class (get_or classes (get_or row j 0) 0)) here
+              (subst (λ e. IsEdge (with_link after class d) class e) (sym is) (goes_new after class d lt)))
         ];
         only = λ c e goes. elim (goes_only after class d lt c e goes) [
           | inl old ↦ more_only c e old

@@ -1,15 +1,15 @@
 -- The search with fewer levels, where an edge of the last one goes back to the path or to a closed class.
 use Rattle.std.proofs.Common.{◌≡◌, ℕ, ◌-◌, ◌≤◌, ◌<◌, ◌⊎◌, List, length, get_or, inl, inr, sym, ap, subst, ◌∙◌, arith}
-use Rattle.rpm_graph.proofs.Vocabulary.{Contains, Follows, Goes, IsCut, IsNoHigher, IsOpen, IsSearch, Leads, Link, link}
+use Rattle.rpm_graph.proofs.Vocabulary.{Contains, Follows, IsEdge, IsFrontOfRoots, IsNoHigher, IsOnPath, IsSearch, Leads, Link, link}
 use Rattle.std.proofs.lemmas.Bool.{cases_lt}
 use Rattle.std.proofs.lemmas.List.{get_or-take, get_or_default}
 use Rattle.rpm_graph.proofs.Fronts.{IsFront, kept_or_lost, waits_open}
 use Rattle.rpm_graph.proofs.Walks.{leads_on, leads_edge}
 
 module _ (rows : List (List ℕ)) (ranks path roots : List ℕ) (pending kept : List Link) (closed : ℕ) (s : IsSearch rows ranks path roots pending closed)
-    (u w : ℕ) (u_open : IsOpen (length rows) ranks u) (goes : Goes rows u w) (w_in : w < length rows) (some : 1 ≤ get_or ranks w 0)
+    (u w : ℕ) (u_open : IsOnPath (length rows) ranks u) (goes : IsEdge rows u w) (w_in : w < length rows) (some : 1 ≤ get_or ranks w 0)
     (highest : (root : ℕ) → Contains roots root → root < get_or ranks u 0) (front : IsFront pending kept w) (fewer : List ℕ)
-    (cut : IsCut roots (get_or ranks w 0) fewer) (last : 0 < length fewer → get_or fewer (length fewer - 1) 0 < get_or ranks w 0) where
+    (cut : IsFrontOfRoots roots (get_or ranks w 0) fewer) (last : 0 < length fewer → get_or fewer (length fewer - 1) 0 < get_or ranks w 0) where
   fewer_at : (i d : ℕ) → i < length fewer → get_or fewer i d ≡ get_or roots i d
   fewer_at i d lt = ap (λ l. get_or l i d) cut.front ∙ get_or-take (length fewer) roots i d lt
 
@@ -38,16 +38,16 @@ module _ (rows : List (List ℕ)) (ranks path roots : List ℕ) (pending kept : 
         | inr behind ↦ absurd (omega (arith, cut.rest i behind lt, at, below))
       ]
 
-  walks_then : (x y : ℕ) → IsOpen (length rows) ranks x → IsOpen (length rows) ranks y → IsNoHigher ranks fewer x y → Leads (Goes rows) x y
+  walks_then : (x y : ℕ) → IsOnPath (length rows) ranks x → IsOnPath (length rows) ranks y → IsNoHigher ranks fewer x y → Leads (IsEdge rows) x y
   walks_then x y ox oy flat = elim (cases_lt (get_or ranks x 0) (get_or ranks w 0)) [
     | inl before ↦ s.walks x y ox oy (λ root has below. flat root (in_fewer root has (omega (arith, below, before))) below)
     | inr behind ↦
-        let w_open : IsOpen (length rows) ranks w = record { within = w_in; entered = some; below = omega (arith, behind, ox.below) } in
-        leads_on (Goes rows) x u y (s.walks x u ox u_open (λ root has below. highest root has))
-        (leads_edge (Goes rows) u w y goes (s.walks w y w_open oy (λ root has below. flat root (in_fewer root has below) (omega (arith, below, behind)))))
+        let w_open : IsOnPath (length rows) ranks w = record { within = w_in; entered = some; below = omega (arith, behind, ox.below) } in
+        leads_on (IsEdge rows) x u y (s.walks x u ox u_open (λ root has below. highest root has))
+        (leads_edge (IsEdge rows) u w y goes (s.walks w y w_open oy (λ root has below. flat root (in_fewer root has below) (omega (arith, below, behind)))))
   ]
 
-  looked_then : (x z : ℕ) → x < length rows → 1 ≤ get_or ranks x 0 → Goes rows x z
+  looked_then : (x z : ℕ) → x < length rows → 1 ≤ get_or ranks x 0 → IsEdge rows x z
       → Contains kept (link x z) ⊎ Follows (length rows) ranks fewer x z
   looked_then x z lt entered has_edge = elim (s.looked x z lt entered has_edge) [
     | inl waits ↦ elim (kept_or_lost pending kept w front x z waits) [

@@ -1,12 +1,12 @@
 -- The last level of the search's path, which becomes a class: the ranks and the roots without it.
 use Rattle.std.proofs.Common.{◌≡◌, ℕ, ◌+◌, ◌-◌, ◌≤◌, ◌<◌, ◌⊎◌, List, length, get_or, take, drop, inl, inr, sym, ap, ◌∙◌, arith}
-use Rattle.rpm_graph.proofs.Vocabulary.{Contains, IsLast, IsMarked, IsOpen, IsSearch, Link, unseen_count}
+use Rattle.rpm_graph.proofs.Vocabulary.{Contains, IsLastRoot, IsMarked, IsOnPath, IsSearch, Link, unseen_count}
 use Rattle.std.proofs.lemmas.Bool.{cases_lt}
 use Rattle.std.proofs.lemmas.List.{get_or-take, get_or-drop, length-take-le, length-drop, get_or_default}
 use Rattle.rpm_graph.proofs.Unseen.{unseen-same}
 
 module _ (rows : List (List ℕ)) (ranks path roots : List ℕ) (pending : List Link) (closed : ℕ) (s : IsSearch rows ranks path roots pending closed)
-    (root : ℕ) (is_last : IsLast roots root)
+    (root : ℕ) (is_last : IsLastRoot roots root)
     (ranks_then : List ℕ) (marked : IsMarked ranks (drop root path) (length ranks + 1 + closed) ranks_then) where
   pub root_there : Contains roots root
   root_there =
@@ -41,7 +41,7 @@ module _ (rows : List (List ℕ)) (ranks path roots : List ℕ) (pending : List 
   pub highest : (r : ℕ) → Contains roots r → r ≤ root
   highest r has = elim (before_last r has) [ inl is ↦ omega (arith, is) | inr less ↦ omega (arith, less.0) ]
 
-  pub in_level : (v : ℕ) → IsOpen (length rows) ranks v → root < get_or ranks v 0 → Contains (drop root path) v
+  pub in_level : (v : ℕ) → IsOnPath (length rows) ranks v → root < get_or ranks v 0 → Contains (drop root path) v
   in_level v o over =
       let at = s.ranked v o in
       let le : root ≤ at.0 = omega (arith, at.2, over) in
@@ -59,7 +59,7 @@ module _ (rows : List (List ℕ)) (ranks path roots : List ℕ) (pending : List 
       let here = ap (λ x. get_or ranks x 0) at in
       (omega (arith, rank, here), omega (arith, rank, here, inside, s.path_room))
 
-  pub there : (v : ℕ) → IsOpen (length rows) ranks v → root < get_or ranks v 0 → get_or ranks_then v 0 ≡ length rows + 1 + closed
+  pub there : (v : ℕ) → IsOnPath (length rows) ranks v → root < get_or ranks v 0 → get_or ranks_then v 0 ≡ length rows + 1 + closed
   there v o over = marked.there v (in_level v o over) ∙ ap (λ n. n + 1 + closed) s.sized
 
   pub stays : (v : ℕ) → (get_or ranks v 0 ≤ root) ⊎ (length rows < get_or ranks v 0) → get_or ranks_then v 0 ≡ get_or ranks v 0
@@ -69,19 +69,19 @@ module _ (rows : List (List ℕ)) (ranks path roots : List ℕ) (pending : List 
   ]
 
   -- a place is of the last level, or stays as it is
-  pub kinds : (v : ℕ) → v < length rows → (IsOpen (length rows) ranks v × (root < get_or ranks v 0) × (get_or ranks_then v 0 ≡ length rows + 1 + closed))
+  pub kinds : (v : ℕ) → v < length rows → (IsOnPath (length rows) ranks v × (root < get_or ranks v 0) × (get_or ranks_then v 0 ≡ length rows + 1 + closed))
       ⊎ ((get_or ranks_then v 0 ≡ get_or ranks v 0) × ((get_or ranks v 0 ≤ root) ⊎ (length rows < get_or ranks v 0)))
   kinds v lt = elim (cases_lt root (get_or ranks v 0)) [
     | inl over ↦ elim (cases_lt (length rows) (get_or ranks v 0)) [
       | inl high ↦ inr (stays v (inr high), inr high)
-      | inr within ↦ let o : IsOpen (length rows) ranks v = record { within = lt; entered = omega (arith, over); below = within } in
+      | inr within ↦ let o : IsOnPath (length rows) ranks v = record { within = lt; entered = omega (arith, over); below = within } in
           inl (o, over, there v o over)
     ]
     | inr low ↦ inr (stays v (inl low), inl low)
   ]
 
-  pub open_before : (v : ℕ) → IsOpen (length rows) ranks_then v
-      → IsOpen (length rows) ranks v × (get_or ranks v 0 ≤ root) × (get_or ranks_then v 0 ≡ get_or ranks v 0)
+  pub open_before : (v : ℕ) → IsOnPath (length rows) ranks_then v
+      → IsOnPath (length rows) ranks v × (get_or ranks v 0 ≤ root) × (get_or ranks_then v 0 ≡ get_or ranks v 0)
   open_before v o = elim (kinds v o.within) [
     | inl level ↦ absurd (omega (arith, level.2, o.below))
     | inr kept ↦ elim kept.1 [
@@ -108,7 +108,7 @@ module _ (rows : List (List ℕ)) (ranks path roots : List ℕ) (pending : List 
       let was = s.placed i (omega (arith, less, root_in)) in
       rw (get_or-take root path i 0 less) (was.0, stays (get_or path i 0) (inl (omega (arith, was.1, less))) ∙ was.1)
 
-  pub ranked_then : (v : ℕ) → IsOpen (length rows) ranks_then v
+  pub ranked_then : (v : ℕ) → IsOnPath (length rows) ranks_then v
       → (i : ℕ) × (i < length (take root path)) × (get_or ranks_then v 0 ≡ i + 1) × (get_or (take root path) i 0 ≡ v)
   ranked_then v o =
       let was = open_before v o in
@@ -128,7 +128,7 @@ module _ (rows : List (List ℕ)) (ranks path roots : List ℕ) (pending : List 
     | inr end ↦
         let was = s.placed root root_in in
         let here : closed ≡ c = omega arith in
-        let o : IsOpen (length rows) ranks (get_or path root 0)
+        let o : IsOnPath (length rows) ranks (get_or path root 0)
         = record { within = was.0; entered = omega (arith, was.1); below = omega (arith, was.1, root_in, s.path_room) } in
         (get_or path root 0, was.0, there (get_or path root 0) o (omega (arith, was.1)) ∙ ap (λ k. length rows + 1 + k) here)
   ]

@@ -1,6 +1,6 @@
 -- A class is listed, and those that waited for it are taken out.
 use Rattle.std.proofs.Common.{◌≡◌, ℕ, ◌<◌, ◌⊎◌, Bool, true, false, cond, List, [], length, get_or, set, inl, inr, sym, ap, subst, ◌∙◌, arith}
-use Rattle.rpm_graph.proofs.Vocabulary.{Contains, Goes, IsListedNow, IsPlaced, IsUnderway, listed_at, Listing, rows_of, unlisted_count}
+use Rattle.rpm_graph.proofs.Vocabulary.{Contains, IsEdge, IsListedNow, IsReadyOrWaits, IsUnderway, listed_at, Listing, row_lists, unlisted_count}
 use Rattle.std.proofs.lemmas.Bool.{cases_lt, cases_eq}
 use Rattle.std.proofs.lemmas.List.{length-set, length-map, get_or-set_same, get_or-set_other, get_or_past}
 use Rattle.std.proofs.lemmas.List.Sums.{sum_by-set}
@@ -9,7 +9,7 @@ none : (x : ℕ) → Contains [] x → ⊥
 none x has = omega (arith, has.1)
 
 -- what has an end is a class
-pub goes_in : (ends : List (List ℕ)) (c d : ℕ) → Goes ends c d → c < length ends
+pub goes_in : (ends : List (List ℕ)) (c d : ℕ) → IsEdge ends c d → c < length ends
 goes_in ends c d goes = elim (cases_lt c (length ends)) [
   | inl inside ↦ inside
   | inr past ↦ absurd (none d (subst (λ l. Contains l d) (get_or_past ends c [] past) goes))
@@ -43,37 +43,38 @@ module _ (listed : List Bool) (class : ℕ) (inside : class < length listed) whe
       omega (arith, one, was)
 
 module _ (ends : List (List ℕ)) (leasts : List ℕ) (s t : Listing) (u : IsUnderway ends leasts s) (class : ℕ) (inside : class < length ends)
-    (free : listed_at s.listed.items class ≡ false) (done : (d : ℕ) → Goes ends class d → listed_at s.listed.items d ≡ true)
+    (free : listed_at s.listed.items class ≡ false) (done : (d : ℕ) → IsEdge ends class d → listed_at s.listed.items d ≡ true)
     (taken : (n : ℕ) → Contains s.ready.keys (n, class) → ⊥) (m : IsListedNow class s t) where
   class_in : class < length s.listed.items
   class_in = omega (arith, inside, u.listed_long)
 
-  class_waits : class < length (rows_of s.waiting.items)
+  class_waits : class < length (row_lists s.waiting.items)
   class_waits = omega (arith, inside, u.waiting_long, length-map s.waiting.items (λ r. r.items))
 
   not_both : (d : ℕ) → listed_at s.listed.items d ≡ true → listed_at s.listed.items d ≡ false → ⊥
   not_both d done_there still_open = cc
 
   -- what waits for another class is not the one that is listed
-  waits_other : (d c : ℕ) → Goes (rows_of s.waiting.items) d c → c ≡ class → ⊥
+  waits_other : (d c : ℕ) → IsEdge (row_lists s.waiting.items) d c → c ≡ class → ⊥
   waits_other d c goes is =
       let w = u.waits d c goes in
-      not_both d (done d (subst (λ x. Goes ends x d) is w.0)) w.1
+      not_both d (done d (subst (λ x. IsEdge ends x d) is w.0)) w.1
 
-  waits_then : (d c : ℕ) → Goes (set (rows_of s.waiting.items) class []) d c
-      → Goes ends c d × (listed_at (set s.listed.items class true) d ≡ false) × (listed_at (set s.listed.items class true) c ≡ false)
+  waits_then : (d c : ℕ) → IsEdge (set (row_lists s.waiting.items) class []) d c
+      → IsEdge ends c d × (listed_at (set s.listed.items class true) d ≡ false) × (listed_at (set s.listed.items class true) c ≡ false)
   waits_then d c goes = elim (cases_eq d class) [
     | inl is ↦
-        let empty = ap (λ x. get_or (set (rows_of s.waiting.items) class []) x []) is ∙ get_or-set_same (rows_of s.waiting.items) class [] [] class_waits in
+        let empty = ap (λ x. get_or (set (row_lists s.waiting.items) class []) x []) is ∙ get_or-set_same (row_lists s.waiting.items) class [] [] class_waits in
         absurd (none c (subst (λ l. Contains l c) empty goes))
     | inr differs ↦
-        let was : Goes (rows_of s.waiting.items) d c = subst (λ l. Contains l c) (get_or-set_other (rows_of s.waiting.items) class d [] [] differs) goes in
+        let was : IsEdge (row_lists s.waiting.items) d c = subst (λ l. Contains l c)
+        (get_or-set_other (row_lists s.waiting.items) class d [] [] differs) goes in
         let w = u.waits d c was in
         (w.0, marked_other s.listed.items class class_in d differs ∙ w.1, marked_other s.listed.items class class_in c (waits_other d c was) ∙ w.2)
   ]
 
   ready_then : (n c : ℕ) → Contains s.ready.keys (n, c) → (c < length ends) × (n ≡ get_or leasts c 0)
-      × (listed_at (set s.listed.items class true) c ≡ false) × ((d : ℕ) → Goes ends c d → listed_at (set s.listed.items class true) d ≡ true)
+      × (listed_at (set s.listed.items class true) c ≡ false) × ((d : ℕ) → IsEdge ends c d → listed_at (set s.listed.items class true) d ≡ true)
   ready_then n c has =
       let r = u.ready n c has in
       let differs : c ≡ class → ⊥ = λ is. taken n (subst (λ x. Contains s.ready.keys (n, x)) is has) in
@@ -85,7 +86,7 @@ module _ (ends : List (List ℕ)) (leasts : List ℕ) (s t : Listing) (u : IsUnd
     waiting_long = omega (
       arith,
       ap length m.waiting,
-      length-set (rows_of s.waiting.items) class [],
+      length-set (row_lists s.waiting.items) class [],
       length-map s.waiting.items (λ r. r.items),
       length-map t.waiting.items (λ r. r.items),
       u.waiting_long,
@@ -99,21 +100,21 @@ module _ (ends : List (List ℕ)) (leasts : List ℕ) (s t : Listing) (u : IsUnd
   }
 
   -- what is not listed was placed, and is, or waited for the class
-  pub marked_placed : (c : ℕ) → listed_at t.listed.items c ≡ false → (c ≡ class) ⊎ IsPlaced leasts s c
-      → IsPlaced leasts t c ⊎ Contains (get_or (rows_of s.waiting.items) class []) c
+  pub marked_placed : (c : ℕ) → listed_at t.listed.items c ≡ false → (c ≡ class) ⊎ IsReadyOrWaits leasts s c
+      → IsReadyOrWaits leasts t c ⊎ Contains (get_or (row_lists s.waiting.items) class []) c
   marked_placed c still_open was = elim was [
     | inl is ↦ absurd ((marked_only s.listed.items class class_in c (subst (λ l. listed_at l c ≡ false) m.listed still_open)).0 is)
     | inr placed ↦ elim placed [
       | inl has ↦ inl (inl (rw m.ready has))
       | inr goes ↦ elim (cases_eq goes.0 class) [
-        | inl is ↦ inr (subst (λ d. Goes (rows_of s.waiting.items) d c) is goes.1)
-        | inr differs ↦ inl (inr (goes.0, rw (m.waiting, get_or-set_other (rows_of s.waiting.items) class goes.0 [] [] differs) goes.1))
+        | inl is ↦ inr (subst (λ d. IsEdge (row_lists s.waiting.items) d c) is goes.1)
+        | inr differs ↦ inl (inr (goes.0, rw (m.waiting, get_or-set_other (row_lists s.waiting.items) class goes.0 [] [] differs) goes.1))
       ]
     ]
   ]
 
   -- what waited for the class is a class that is not listed
-  pub waited : (c : ℕ) → Contains (get_or (rows_of s.waiting.items) class []) c → (c < length ends) × (listed_at t.listed.items c ≡ false)
+  pub waited : (c : ℕ) → Contains (get_or (row_lists s.waiting.items) class []) c → (c < length ends) × (listed_at t.listed.items c ≡ false)
   waited c goes =
       let w = u.waits class c goes in
       (goes_in ends c class w.0, rw m.listed (marked_other s.listed.items class class_in c (waits_other class c goes) ∙ w.2))

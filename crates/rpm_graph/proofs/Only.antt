@@ -1,6 +1,6 @@
 -- A graph has only one order.
 use Rattle.std.proofs.Common.{◌≡◌, ℕ, zero, suc, ◌<◌, ◌≤◌, ◌++◌, List, [], ◌∷◌, length, get_or, take, inl, inr, refl, sym, ap, ◌∙◌, subst, arith}
-use Rattle.rpm_graph.proofs.Vocabulary.{Contains, IsClass, IsNext, IsOrder, IsRising, least, Lists, Network}
+use Rattle.rpm_graph.proofs.Vocabulary.{Contains, IsClass, IsNextClass, IsOrder, IsNumberRising, least, Lists, Network}
 use Rattle.std.proofs.Math.Seq.{take-suc}
 use Rattle.std.proofs.lemmas.Bool.{cases_lt}
 use Rattle.std.proofs.lemmas.List.{ext_get_or, get_or_default, take_all}
@@ -8,7 +8,7 @@ use Rattle.rpm_graph.proofs.Orderly.{le_of_rising}
 
 -- ---- rising numbers are told by which numbers they are
 
-module _ (xs ys : List ℕ) (rises : IsRising xs) (rising : IsRising ys) (inside : (n : ℕ) → Contains xs n → Contains ys n) where
+module _ (xs ys : List ℕ) (rises : IsNumberRising xs) (rising : IsNumberRising ys) (inside : (n : ℕ) → Contains xs n → Contains ys n) where
   reach : (k i : ℕ) → k ≤ i → i < length ys → get_or ys i 0 ≡ get_or xs k 0 → (k < length ys) × (get_or ys k 0 ≤ get_or xs k 0)
   reach k i le lt is = (omega (arith, le, lt), omega (arith, le_of_rising ys rising k i le lt, is))
 
@@ -37,7 +37,7 @@ module _ (xs ys : List ℕ) (rises : IsRising xs) (rising : IsRising ys) (inside
     | inr enough ↦ omega (arith, enough)
   ]
 
-same_rising : (xs ys : List ℕ) → IsRising xs → IsRising ys → ((n : ℕ) → Contains xs n → Contains ys n)
+same_rising : (xs ys : List ℕ) → IsNumberRising xs → IsNumberRising ys → ((n : ℕ) → Contains xs n → Contains ys n)
     → ((n : ℕ) → Contains ys n → Contains xs n) → xs ≡ ys
 same_rising xs ys rises rising there back =
     let long = no_shorter xs ys rises rising there in
@@ -53,7 +53,7 @@ module _ (g : Network) where
   has_least : (class : List ℕ) → IsClass g class → Contains class (least class)
   has_least class is = (0, is.some, get_or_default class 0 (least class) 0 is.some)
 
-  same_next : (listed : List (List ℕ)) (a b : List ℕ) → IsNext g listed a → IsNext g listed b → a ≡ b
+  same_next : (listed : List (List ℕ)) (a b : List ℕ) → IsNextClass g listed a → IsNextClass g listed b → a ≡ b
   same_next listed a b first second =
       let of_a = first.available.is_class in
       let of_b = second.available.is_class in
@@ -80,7 +80,7 @@ module _ (g : Network) where
       let lt : k < length xs = omega (arith, le) in
       elim (cases_lt k (length ys)) [
         | inl less ↦
-            (let next = subst (λ l. IsNext g l (get_or xs k [])) before.1 (first.each k lt) in
+            (let next = subst (λ l. IsNextClass g l (get_or xs k [])) before.1 (first.each k lt) in
             let class = same_next (take k ys) (get_or xs k []) (get_or ys k []) next (second.each k less) in (
               omega (arith, less),
               take-suc xs k [] lt ∙ ap (λ l. l ++ get_or xs k [] ∷ []) before.1 ∙ ap (λ c. take k ys ++ c ∷ []) class ∙ sym (take-suc ys k [] less),

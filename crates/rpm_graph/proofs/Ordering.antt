@@ -1,7 +1,7 @@
 -- The listing of the classes by their numbers is the order of the graph.
 use Rattle.std.proofs.Common.{◌≡◌, ℕ, ◌≤◌, ◌<◌, ◌⊎◌, List, [], length, get_or, map, take, inl, inr, sym, ap, subst, ◌∙◌, arith}
-use Rattle.rpm_graph.proofs.Vocabulary.{Contains, Goes, HasEdge, HaveEdges, HaveEnds, HaveMembers, IsAvailable, IsLeastReady, IsListing, IsNetwork, IsNext}
-use Rattle.rpm_graph.proofs.Vocabulary.{IsOrder, IsReady, IsSplit, least, Lists, Network}
+use Rattle.rpm_graph.proofs.Vocabulary.{Contains, IsEdge, HasEdge, HaveEdges, HaveEnds, HaveMembers, IsAvailable, IsLeastReady, IsListing, IsNetwork, IsNextClass}
+use Rattle.rpm_graph.proofs.Vocabulary.{IsOrder, IsListable, IsSplit, least, Lists, Network}
 use Rattle.std.proofs.lemmas.List.{get_or_default, get_or-map, length-map, take-map}
 use Rattle.rpm_graph.proofs.Bridge.{same_place, edge_row, together_of, class_of, members_are_class}
 use Rattle.rpm_graph.proofs.Orderly.{le_of_rising}
@@ -48,7 +48,7 @@ module _ (g : Network) (net : IsNetwork g) (rows : List (List ℕ)) (have : Have
         let same : get_or classes v.0 0 ≡ at.0 = class_is at.0 v.0 v.1 (subst (λ x. Contains (class_at members at.0) x) (sym v.3) at.2) in
         free (subst (λ x. Contains listed x) (sym same ∙ v.2) at.1)
 
-    ends_then : (c n m : ℕ) → IsReady ends listed c → Contains (class_at members c) n → HasEdge g n m
+    ends_then : (c n m : ℕ) → IsListable ends listed c → Contains (class_at members c) n → HasEdge g n m
         → Contains (class_at members c) m ⊎ Lists (map (class_at members) listed) m
     ends_then c n m r has edge =
         let v = grouped.only c n has in
@@ -58,10 +58,10 @@ module _ (g : Network) (net : IsNetwork g) (rows : List (List ℕ)) (have : Have
         elim (ended.there v.0 w.0 (row_in v.0 v.1) w.3) [
           | inl own ↦ inl (subst (λ d. Contains (class_at members d) m) (own ∙ v.2) stands)
           | inr goes ↦ inr (lists_of members listed (get_or classes w.0 0) m
-              (r.ends_listed (get_or classes w.0 0) (subst (λ d. Goes ends d (get_or classes w.0 0)) v.2 goes)) stands)
+              (r.ends_listed (get_or classes w.0 0) (subst (λ d. IsEdge ends d (get_or classes w.0 0)) v.2 goes)) stands)
         ]
 
-    available_then : (c : ℕ) → IsReady ends listed c → IsAvailable g (map (class_at members) listed) (class_at members c)
+    available_then : (c : ℕ) → IsListable ends listed c → IsAvailable g (map (class_at members) listed) (class_at members c)
     available_then c r = record {
       is_class = members_are_class g net rows have classes count split members grouped c (omega (arith, r.within, sized));
       unlisted = λ n has. unlisted_then c n r.unlisted has;
@@ -89,7 +89,7 @@ module _ (g : Network) (net : IsNetwork g) (rows : List (List ℕ)) (have : Have
           let both = (a.is_class.whole (number v) (number x) has).0 there in
           sym (class_of g net rows have classes count split v x lt inside both.1)
 
-      own_ends : (d : ℕ) → Goes ends own d → Contains listed d
+      own_ends : (d : ℕ) → IsEdge ends own d → Contains listed d
       own_ends d goes =
           let at = ended.back own d goes in
           let x_in = place_in at.0 at.2 in
@@ -101,7 +101,7 @@ module _ (g : Network) (net : IsNetwork g) (rows : List (List ℕ)) (have : Have
                 subst (λ x. Contains listed x) (sym (class_is found.0 at.1 y_in found.2) ∙ at.5) found.1
           ]
 
-      own_ready : IsReady ends listed own
+      own_ready : IsListable ends listed own
       own_ready = record {
         within = omega (arith, split.bounded v (row_in v lt), sized);
         unlisted = λ there. a.unlisted (number v) has (lists_of members listed own (number v) there own_has);
@@ -124,7 +124,7 @@ module _ (g : Network) (net : IsNetwork g) (rows : List (List ℕ)) (have : Have
           let high = get_or_default (class_at members e) stands.0 0 (number at.0) stands.1 ∙ stands.2 in
           omega (arith, r.first e ready, leasts_are c (omega (arith, r.ready.within, sized)), leasts_are e (omega (arith, ready.within, sized)), low, high, is)
 
-      pub next_then : (c : ℕ) → IsLeastReady ends leasts listed c → IsNext g (map (class_at members) listed) (class_at members c)
+      pub next_then : (c : ℕ) → IsLeastReady ends leasts listed c → IsNextClass g (map (class_at members) listed) (class_at members c)
       next_then c r = record { available = available_then c r.ready; first = first_then c r }
 
   pub order_then : (leasts : List ℕ) → ((c : ℕ) → c < count → get_or leasts c 0 ≡ least (class_at members c)) → (order : List ℕ)
@@ -133,8 +133,8 @@ module _ (g : Network) (net : IsNetwork g) (rows : List (List ℕ)) (have : Have
     each = λ k lt.
         let inside : k < length order = omega (arith, lt, length-map order (class_at members)) in
         let at : get_or (map (class_at members) order) k [] ≡ class_at members (get_or order k 0) = get_or-map (class_at members) order k 0 [] inside in
-        subst (λ l. IsNext g l (get_or (map (class_at members) order) k [])) (sym (take-map (class_at members) k order))
-        (subst (λ l. IsNext g (map (class_at members) (take k order)) l) (sym at)
+        subst (λ l. IsNextClass g l (get_or (map (class_at members) order) k [])) (sym (take-map (class_at members) k order))
+        (subst (λ l. IsNextClass g (map (class_at members) (take k order)) l) (sym at)
         (next_then (take k order) leasts leasts_are (get_or order k 0) (listing.each k inside)));
     all = λ n (j, lt, is).
         let at : number j ≡ n = get_or_default g.numbers j 0 n lt ∙ is in

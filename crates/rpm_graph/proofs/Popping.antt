@@ -1,6 +1,6 @@
 -- The least of the classes that are ready is taken out, and listed next.
 use Rattle.std.proofs.Common.{◌≡◌, ℕ, ◌≤◌, ◌<◌, ◌++◌, ◌⊎◌, true, false, List, [], ◌∷◌, zero, suc, length, get_or, inl, inr, refl, sym, ap, subst, ◌∙◌, arith}
-use Rattle.rpm_graph.proofs.Vocabulary.{All, AreFalling, AreLeast, Contains, Goes, IsLeastReady, IsLtBy, IsPlaced, IsUnderway, listed_at, Listing}
+use Rattle.rpm_graph.proofs.Vocabulary.{All, AreFalling, AreLeast, Contains, IsEdge, IsLeastReady, IsLtBy, IsReadyOrWaits, IsUnderway, listed_at, Listing}
 use Rattle.std.proofs.lemmas.Bool.{cases_lt, cases_Bool}
 use Rattle.std.proofs.lemmas.List.{get_or_append_left, get_or_push, length_push, take-append-le, take_all}
 use Rattle.std.proofs.lemmas.List.Elements.{All-contains}
@@ -22,7 +22,7 @@ module _ (ends : List (List ℕ)) (leasts : List ℕ) (s t : Listing) (u : IsUnd
   one_of p has = first_or_rest head t.ready.keys p (subst (λ ks. Contains ks p) removed has)
 
   pub popped_class : (class < length ends) × (n ≡ get_or leasts class 0)
-      × (listed_at s.listed.items class ≡ false) × ((d : ℕ) → Goes ends class d → listed_at s.listed.items d ≡ true)
+      × (listed_at s.listed.items class ≡ false) × ((d : ℕ) → IsEdge ends class d → listed_at s.listed.items d ≡ true)
   popped_class = u.ready n class popped
 
   pub popped_underway : IsUnderway ends leasts t
@@ -42,7 +42,7 @@ module _ (ends : List (List ℕ)) (leasts : List ℕ) (s t : Listing) (u : IsUnd
       let same : m ≡ n = was.1 ∙ sym popped_class.1 in
       not_below_itself head (subst (λ x. IsLtBy pair_cmp head (x, class)) same (All-contains (IsLtBy pair_cmp head) t.ready.keys (m, class) above has))
 
-  pub popped_placed : (c : ℕ) → IsPlaced leasts s c → (c ≡ class) ⊎ IsPlaced leasts t c
+  pub popped_placed : (c : ℕ) → IsReadyOrWaits leasts s c → (c ≡ class) ⊎ IsReadyOrWaits leasts t c
   popped_placed c placed = elim placed [
     | inl has ↦ elim (one_of (get_or leasts c 0, c) has) [
       | inl is ↦ inl (sym (ap (λ (p : ℕ × ℕ). p.1) is))
@@ -61,7 +61,7 @@ module _ (ends : List (List ℕ)) (leasts : List ℕ) (s t : Listing) (u : IsUnd
 
   module _ (order : List ℕ) (there : (c : ℕ) → Contains order c → listed_at s.listed.items c ≡ true)
       (back : (c : ℕ) → listed_at s.listed.items c ≡ true → Contains order c)
-      (placed : (c : ℕ) → c < length ends → listed_at s.listed.items c ≡ false → IsPlaced leasts s c) where
+      (placed : (c : ℕ) → c < length ends → listed_at s.listed.items c ≡ false → IsReadyOrWaits leasts s c) where
     unlisted_of : (d : ℕ) → (Contains order d → ⊥) → listed_at s.listed.items d ≡ false
     unlisted_of d none = elim (cases_Bool (listed_at s.listed.items d)) [ inl done_there ↦ absurd (none (back d done_there)) | inr still_open ↦ still_open ]
 
@@ -92,7 +92,7 @@ least_more ends leasts order class all next k lt = elim (cases_lt k (length orde
 
 -- where none is ready, each class is listed
 pub all_listed : (ends : List (List ℕ)) (leasts : List ℕ) (s : Listing) → IsUnderway ends leasts s → AreFalling ends → length s.ready.keys ≡ 0
-    → ((c : ℕ) → c < length ends → listed_at s.listed.items c ≡ false → IsPlaced leasts s c)
+    → ((c : ℕ) → c < length ends → listed_at s.listed.items c ≡ false → IsReadyOrWaits leasts s c)
     → (n c : ℕ) → c < n → c < length ends → listed_at s.listed.items c ≡ true
 all_listed ends leasts s u falls empty placed zero c lt inside = absurd (omega (arith, lt))
 all_listed ends leasts s u falls empty placed (suc n) c lt inside = elim (cases_Bool (listed_at s.listed.items c)) [

@@ -1,11 +1,11 @@
 -- A graph stays one when a number or an edge is added after the others.
 use Rattle.std.proofs.Common.{◌≡◌, ℕ, ◌<◌, ◌++◌, List, [], ◌∷◌, length, inl, inr, arith}
-use Rattle.rpm_graph.proofs.Vocabulary.{All, AreRising, Edge, edge, edge_at, IsBefore, IsNetwork, IsRising, Joins}
+use Rattle.rpm_graph.proofs.Vocabulary.{All, AreRising, Edge, edge, edge_at, IsEdgeBefore, IsNetwork, IsNumberRising, Joins}
 use Rattle.std.proofs.lemmas.Bool.{cases_lt}
 use Rattle.std.proofs.lemmas.List.{get_or_append_left, get_or_push, length_push}
 use Rattle.std.proofs.lemmas.List.Elements.{Contains-append_left}
 
-pub IsRising-push : (xs : List ℕ) (x : ℕ) → IsRising xs → All (λ n. n < x) xs → IsRising (xs ++ x ∷ [])
+pub IsRising-push : (xs : List ℕ) (x : ℕ) → IsNumberRising xs → All (λ n. n < x) xs → IsNumberRising (xs ++ x ∷ [])
 IsRising-push xs x rises below i j less lt =
     let long = length_push xs x in
     let inside_i : i < length xs = omega arith in
@@ -15,7 +15,7 @@ IsRising-push xs x rises below i j less lt =
           rw (get_or_append_left xs (x ∷ []) 0 i inside_i, get_or_push xs x 0 j at) (below i 0 inside_i)
     ]
 
-pub AreRising-push : (es : List Edge) (e : Edge) → AreRising es → All (λ a. IsBefore a e) es → AreRising (es ++ e ∷ [])
+pub AreRising-push : (es : List Edge) (e : Edge) → AreRising es → All (λ a. IsEdgeBefore a e) es → AreRising (es ++ e ∷ [])
 AreRising-push es e rises before i j less lt =
     let long = length_push es e in
     let inside_i : i < length es = omega arith in
@@ -41,7 +41,7 @@ network_with_number xs es x is below = record {
 }
 
 pub network_with_edge : (xs : List ℕ) (es : List Edge) (e : Edge) → IsNetwork (record { numbers = xs; edges = es }) → Joins xs e
-    → All (λ a. IsBefore a e) es → IsNetwork (record { numbers = xs; edges = es ++ e ∷ [] })
+    → All (λ a. IsEdgeBefore a e) es → IsNetwork (record { numbers = xs; edges = es ++ e ∷ [] })
 network_with_edge xs es e is joins before = record {
   numbers = is.numbers;
   edges = AreRising-push es e is.edges before;

@@ -1,6 +1,6 @@
 -- A class that was looked at again is among those that are ready, or waits for an end of its own.
 use Rattle.std.proofs.Common.{◌≡◌, ℕ, ◌≤◌, ◌<◌, ◌⊎◌, Bool, true, false, List, [], ◌∷◌, ◌++◌, length, get_or, set, inl, inr, refl, sym, ap, subst, ◌∙◌, arith}
-use Rattle.rpm_graph.proofs.Vocabulary.{AreFalling, Contains, Goes, IsFirstUnlisted, IsPlaced, IsUnderway, listed_at, Listing, rows_of, with_link}
+use Rattle.rpm_graph.proofs.Vocabulary.{AreFalling, Contains, IsEdge, IsFirstUnlisted, IsReadyOrWaits, IsUnderway, listed_at, Listing, row_lists, with_link}
 use Rattle.std.proofs.lemmas.Bool.{cases_lt, cases_eq}
 use Rattle.std.proofs.lemmas.List.{length-set, length-map, get_or-set_same, get_or-set_other, get_or_default}
 use Rattle.rpm_graph.proofs.Rowing.{goes_new, goes_kept, goes_only}
@@ -40,21 +40,21 @@ module _ (ends : List (List ℕ)) (leasts : List ℕ) (falls : AreFalling ends) 
     abbrev end : ℕ
     end = get_or row at 0
 
-    goes_end : Goes ends class end
+    goes_end : IsEdge ends class end
     goes_end = (at, short, get_or_default row at end 0 short)
 
-    end_in : end < length (rows_of s.waiting.items)
+    end_in : end < length (row_lists s.waiting.items)
     end_in = omega (arith, falls class end goes_end, inside, u.waiting_long, length-map s.waiting.items (λ r. r.items))
 
-    waits_then : (d c : ℕ) → Goes (with_link (rows_of s.waiting.items) end class) d c
-        → Goes ends c d × (listed_at s.listed.items d ≡ false) × (listed_at s.listed.items c ≡ false)
-    waits_then d c goes = elim (goes_only (rows_of s.waiting.items) end class end_in d c goes) [
+    waits_then : (d c : ℕ) → IsEdge (with_link (row_lists s.waiting.items) end class) d c
+        → IsEdge ends c d × (listed_at s.listed.items d ≡ false) × (listed_at s.listed.items c ≡ false)
+    waits_then d c goes = elim (goes_only (row_lists s.waiting.items) end class end_in d c goes) [
       | inl old ↦ u.waits d c old
       | inr new ↦ rw (new.0, new.1) (goes_end, first.there short, free)
     ]
 
     module _ (t : Listing) (checked : t.checked.items ≡ set s.checked.items class at)
-        (waiting : rows_of t.waiting.items ≡ with_link (rows_of s.waiting.items) end class) (listed : t.listed.items ≡ s.listed.items)
+        (waiting : row_lists t.waiting.items ≡ with_link (row_lists s.waiting.items) end class) (listed : t.listed.items ≡ s.listed.items)
         (ready : t.ready.keys ≡ s.ready.keys) where
       pub waits_underway : IsUnderway ends leasts t
       waits_underway = record {
@@ -62,7 +62,7 @@ module _ (ends : List (List ℕ)) (leasts : List ℕ) (falls : AreFalling ends) 
         waiting_long = omega (
           arith,
           ap length waiting,
-          length-set (rows_of s.waiting.items) end (get_or (rows_of s.waiting.items) end [] ++ class ∷ []),
+          length-set (row_lists s.waiting.items) end (get_or (row_lists s.waiting.items) end [] ++ class ∷ []),
           length-map s.waiting.items (λ r. r.items),
           length-map t.waiting.items (λ r. r.items),
           u.waiting_long,
@@ -74,17 +74,17 @@ module _ (ends : List (List ℕ)) (leasts : List ℕ) (falls : AreFalling ends) 
         ready = rw (ready, listed) u.ready;
       }
 
-      pub waits_keeps : (c : ℕ) → IsPlaced leasts s c → IsPlaced leasts t c
+      pub waits_keeps : (c : ℕ) → IsReadyOrWaits leasts s c → IsReadyOrWaits leasts t c
       waits_keeps c placed = elim placed [
         | inl has ↦ inl (rw ready has)
-        | inr goes ↦ inr (goes.0, rw waiting (goes_kept (rows_of s.waiting.items) end class end_in goes.0 c goes.1))
+        | inr goes ↦ inr (goes.0, rw waiting (goes_kept (row_lists s.waiting.items) end class end_in goes.0 c goes.1))
       ]
 
-      pub waits_placed : IsPlaced leasts t class
-      waits_placed = inr (end, rw waiting (goes_new (rows_of s.waiting.items) end class end_in))
+      pub waits_placed : IsReadyOrWaits leasts t class
+      waits_placed = inr (end, rw waiting (goes_new (row_lists s.waiting.items) end class end_in))
 
   module _ (long : length row ≤ at) where
-    all_listed : (d : ℕ) → Goes ends class d → listed_at s.listed.items d ≡ true
+    all_listed : (d : ℕ) → IsEdge ends class d → listed_at s.listed.items d ≡ true
     all_listed d (i, lt, is) = rw (sym (get_or_default row i 0 d lt ∙ is)) (before i (omega (arith, lt, long)))
 
     module _ (t : Listing) (checked : t.checked.items ≡ set s.checked.items class at)
@@ -92,7 +92,7 @@ module _ (ends : List (List ℕ)) (leasts : List ℕ) (falls : AreFalling ends) 
         (added : Contains t.ready.keys (get_or leasts class 0, class)) (kept : (p : ℕ × ℕ) → Contains s.ready.keys p → Contains t.ready.keys p)
         (only : (p : ℕ × ℕ) → Contains t.ready.keys p → Contains s.ready.keys p ⊎ (p ≡ (get_or leasts class 0, class))) where
       ready_then : (n c : ℕ) → Contains t.ready.keys (n, c) → (c < length ends) × (n ≡ get_or leasts c 0)
-          × (listed_at s.listed.items c ≡ false) × ((d : ℕ) → Goes ends c d → listed_at s.listed.items d ≡ true)
+          × (listed_at s.listed.items c ≡ false) × ((d : ℕ) → IsEdge ends c d → listed_at s.listed.items d ≡ true)
       ready_then n c has = elim (only (n, c) has) [
         | inl old ↦ u.ready n c old
         | inr new ↦ rw (ap (λ (p : ℕ × ℕ). p.0) new, ap (λ (p : ℕ × ℕ). p.1) new) (inside, refl, free, all_listed)
@@ -109,13 +109,13 @@ module _ (ends : List (List ℕ)) (leasts : List ℕ) (falls : AreFalling ends) 
         ready = rw listed ready_then;
       }
 
-      pub ready_keeps : (c : ℕ) → IsPlaced leasts s c → IsPlaced leasts t c
+      pub ready_keeps : (c : ℕ) → IsReadyOrWaits leasts s c → IsReadyOrWaits leasts t c
       ready_keeps c placed = elim placed [
         | inl has ↦ inl (kept (get_or leasts c 0, c) has)
         | inr goes ↦ inr (goes.0, rw waiting goes.1)
       ]
 
-      pub ready_placed : IsPlaced leasts t class
+      pub ready_placed : IsReadyOrWaits leasts t class
       ready_placed = inl added
 
 -- an end is lower than its class

@@ -1,6 +1,6 @@
 -- A place that the search puts on its path: the ranks and the roots.
 use Rattle.std.proofs.Common.{◌≡◌, ℕ, ◌+◌, ◌≤◌, ◌<◌, ◌++◌, List, [], ◌∷◌, length, get_or, set, inl, inr, refl, sym, ap, subst, ◌∙◌, arith}
-use Rattle.rpm_graph.proofs.Vocabulary.{Contains, IsOpen, IsSearch, Link, unseen_count}
+use Rattle.rpm_graph.proofs.Vocabulary.{Contains, IsOnPath, IsSearch, Link, unseen_count}
 use Rattle.std.proofs.lemmas.Bool.{cases_lt, cases_eq}
 use Rattle.std.proofs.lemmas.List.{get_or_append_left, get_or_push, get_or_default, length_push, get_or-set_same, get_or-set_other}
 use Rattle.std.proofs.lemmas.List.Elements.{Contains-append_left, Contains-push}
@@ -26,17 +26,17 @@ module _ (rows : List (List ℕ)) (ranks path roots : List ℕ) (pending : List 
   pub apart : (x : ℕ) → 1 ≤ get_or ranks x 0 → x ≡ v → ⊥
   apart x some is = omega (arith, some, ap (λ y. get_or ranks y 0) is, new)
 
-  pub open_before : (x : ℕ) → (x ≡ v → ⊥) → IsOpen (length rows) ranks_then x → IsOpen (length rows) ranks x
+  pub open_before : (x : ℕ) → (x ≡ v → ⊥) → IsOnPath (length rows) ranks_then x → IsOnPath (length rows) ranks x
   open_before x differs o =
       let same = elsewhere x differs in
       record { within = o.within; entered = omega (arith, o.entered, same); below = omega (arith, o.below, same) }
 
-  pub open_then : (x : ℕ) → IsOpen (length rows) ranks x → IsOpen (length rows) ranks_then x
+  pub open_then : (x : ℕ) → IsOnPath (length rows) ranks x → IsOnPath (length rows) ranks_then x
   open_then x o =
       let same = elsewhere x (apart x o.entered) in
       record { within = o.within; entered = omega (arith, o.entered, same); below = omega (arith, o.below, same) }
 
-  pub open_here : IsOpen (length rows) ranks_then v
+  pub open_here : IsOnPath (length rows) ranks_then v
   open_here = record { within = inside; entered = omega (arith, at_place); below = omega (arith, at_place, s.path_room, fewer) }
 
   pub placed_then : (i : ℕ) → i < length (path ++ v ∷ [])
@@ -49,7 +49,7 @@ module _ (rows : List (List ℕ)) (ranks path roots : List ℕ) (pending : List 
         rw (get_or_push path v 0 i at) (inside, at_place ∙ ap (λ m. m + 1) at)
   ]
 
-  pub ranked_then : (x : ℕ) → IsOpen (length rows) ranks_then x
+  pub ranked_then : (x : ℕ) → IsOnPath (length rows) ranks_then x
       → (i : ℕ) × (i < length (path ++ v ∷ [])) × (get_or ranks_then x 0 ≡ i + 1) × (get_or (path ++ v ∷ []) i 0 ≡ x)
   ranked_then x o = elim (cases_eq x v) [
     | inl is ↦ (length path, omega (arith, length_push path v), ap (λ y. get_or ranks_then y 0) is ∙ at_place, get_or_push path v 0 (length path) refl ∙ sym is)

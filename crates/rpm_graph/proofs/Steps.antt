@@ -1,12 +1,12 @@
 -- What the last root and the last waiting edge say.
 use Rattle.std.proofs.Common.{◌≡◌, ℕ, ◌-◌, ◌≤◌, ◌<◌, ◌++◌, ◌⊎◌, List, Vec, [], ◌∷◌, length, get_or, set, refl, sym, ap, ◌∙◌, inl, inr, arith}
-use Rattle.rpm_graph.proofs.Vocabulary.{Contains, Goes, IsLast, IsOpen, IsSearch, KeepsSeen, Leads, Link, link, link_at, rows_of}
+use Rattle.rpm_graph.proofs.Vocabulary.{Contains, IsEdge, IsLastRoot, IsOnPath, IsSearch, KeepsSeen, Leads, Link, link, link_at, row_lists}
 use Rattle.std.proofs.lemmas.Bool.{cases_lt, cases_eq}
 use Rattle.std.proofs.lemmas.List.{get_or_default, get_or_push, length_push, get_or-map, get_or-set_same, get_or-set_other, get_or_past}
 use Rattle.rpm_graph.proofs.Walks.{leads_edge, leads_on}
 
 module _ (rows : List (List ℕ)) (ranks path roots : List ℕ) (pending : List Link) (closed : ℕ) (s : IsSearch rows ranks path roots pending closed)
-    (root : ℕ) (is_last : IsLast roots root) where
+    (root : ℕ) (is_last : IsLastRoot roots root) where
   -- no root is above the last
   pub below_last : (r : ℕ) → Contains roots r → r ≤ root
   below_last r (i, lt, is) =
@@ -31,27 +31,28 @@ module _ (rows : List (List ℕ)) (ranks path roots : List ℕ) (pending : List 
     last_in : length kept < length pending
     last_in = omega (arith, ap length split, length_push kept (link from to))
 
-    pub from_open : IsOpen (length rows) ranks from
+    pub from_open : IsOnPath (length rows) ranks from
     from_open = rw (ap (λ (l : Link). l.from) (sym last_at)) (s.pending_open (length kept) last_in).0
 
-    pub goes : Goes rows from to
+    pub goes : IsEdge rows from to
     goes = rw (ap (λ (l : Link). l.from) (sym last_at), ap (λ (l : Link). l.to) (sym last_at)) (s.pending_open (length kept) last_in).1
 
     pub roots_below : (r : ℕ) → Contains roots r → r < get_or ranks from 0
     roots_below r has = omega (arith, below_last r has, over)
 
     -- so the whole path leads to where the edge ends
-    pub path_leads : (x : ℕ) → IsOpen (length rows) ranks x → Leads (Goes rows) x to
+    pub path_leads : (x : ℕ) → IsOnPath (length rows) ranks x → Leads (IsEdge rows) x to
     path_leads x o =
-        leads_on (Goes rows) x from to (s.walks x from o from_open (λ r has below. roots_below r has)) (leads_edge (Goes rows) from to to goes ([], refl))
+        leads_on (IsEdge rows) x from to (s.walks x from o from_open (λ r has below. roots_below r has)) (leads_edge (IsEdge rows) from to to goes ([], refl))
 
-pub last_root : (roots : List ℕ) (root : ℕ) → IsLast roots root → Contains roots root
+pub last_root : (roots : List ℕ) (root : ℕ) → IsLastRoot roots root → Contains roots root
 last_root roots root is_last =
     let lt : (length roots - 1) < length roots = omega (arith, is_last.some) in
     (length roots - 1, lt, get_or_default roots (length roots - 1) root 0 lt ∙ is_last.last)
 
 -- a row that was read
-pub row_read : {A : Type 0} (rows : List (Vec ℕ A)) (v : ℕ) (row : Vec ℕ A) → v < length rows → row ≡ get_or rows v row → row.items ≡ get_or (rows_of rows) v []
+pub row_read : {A : Type 0} (rows : List (Vec ℕ A)) (v : ℕ) (row : Vec ℕ A) → v < length rows → row ≡ get_or rows v row
+    → row.items ≡ get_or (row_lists rows) v []
 row_read rows v row lt is = ap (λ (r : Vec ℕ _). r.items) is ∙ sym (get_or-map (λ r. r.items) rows v row [] lt)
 
 pub set_keeps : (ranks : List ℕ) (v x : ℕ) → 1 ≤ x → KeepsSeen ranks (set ranks v x)

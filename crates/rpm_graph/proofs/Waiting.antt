@@ -1,6 +1,6 @@
 -- A place that the search puts on its path: the edges that wait then.
 use Rattle.std.proofs.Common.{◌≡◌, ℕ, ◌+◌, ◌-◌, ◌≤◌, ◌<◌, ◌++◌, List, [], length, get_or, set, map, inl, inr, refl, ap, ◌∙◌, arith}
-use Rattle.rpm_graph.proofs.Vocabulary.{Contains, Goes, IsOpen, IsSearch, Link, link, link_at}
+use Rattle.rpm_graph.proofs.Vocabulary.{Contains, IsEdge, IsOnPath, IsSearch, Link, link, link_at}
 use Rattle.std.proofs.lemmas.Bool.{cases_lt}
 use Rattle.std.proofs.lemmas.List.{get_or_append_left, get_or-append_right, get_or_default, length-append, length-map, get_or-map}
 use Rattle.rpm_graph.proofs.Fronts.{IsFront, open_rank}
@@ -20,16 +20,16 @@ module _ (rows : List (List ℕ)) (ranks path roots : List ℕ) (pending kept : 
   apart : (x : ℕ) → 1 ≤ get_or ranks x 0 → x ≡ v → ⊥
   apart = standing.apart rows ranks path roots pending closed s v inside new
 
-  open_then : (x : ℕ) → IsOpen (length rows) ranks x → IsOpen (length rows) ranks_then x
+  open_then : (x : ℕ) → IsOnPath (length rows) ranks x → IsOnPath (length rows) ranks_then x
   open_then = standing.open_then rows ranks path roots pending closed s v inside new
 
-  open_here : IsOpen (length rows) ranks_then v
+  open_here : IsOnPath (length rows) ranks_then v
   open_here = standing.open_here rows ranks path roots pending closed s v inside new
 
   abbrev pub row : List Link
   row = map (λ to. link v to) (get_or rows v [])
 
-  pub row_has : (w : ℕ) → Goes rows v w → Contains row (link v w)
+  pub row_has : (w : ℕ) → IsEdge rows v w → Contains row (link v w)
   row_has w (j, lt, is) = (
     j,
     omega (arith, length-map (get_or rows v []) (λ to. link v to)),
@@ -37,7 +37,7 @@ module _ (rows : List (List ℕ)) (ranks path roots : List ℕ) (pending kept : 
   )
 
   pub row_at : (i : ℕ) → length kept ≤ i → i < length (kept ++ row)
-      → (w : ℕ) × Goes rows v w × (link_at (kept ++ row) i ≡ link v w)
+      → (w : ℕ) × IsEdge rows v w × (link_at (kept ++ row) i ≡ link v w)
   row_at i le lt =
       let to = get_or rows v [] in
       let j : (i - length kept) < length to = omega (arith, lt, length-append kept row, length-map to (λ to. link v to)) in
@@ -51,7 +51,7 @@ module _ (rows : List (List ℕ)) (ranks path roots : List ℕ) (pending kept : 
   kept_at i lt = get_or_append_left kept row (link 0 0) i lt ∙ front.same i lt
 
   pub pending_open_then : (i : ℕ) → i < length (kept ++ row)
-      → IsOpen (length rows) ranks_then (link_at (kept ++ row) i).from × Goes rows (link_at (kept ++ row) i).from (link_at (kept ++ row) i).to
+      → IsOnPath (length rows) ranks_then (link_at (kept ++ row) i).from × IsEdge rows (link_at (kept ++ row) i).from (link_at (kept ++ row) i).to
   pending_open_then i lt = elim (cases_lt i (length kept)) [
     | inl below ↦ let was = s.pending_open i (omega (arith, below, front.shorter)) in
         rw (kept_at i below) (open_then (link_at pending i).from was.0, was.1)

@@ -16,16 +16,16 @@ abbrev pub edge_at : List Edge → ℕ → Edge
 edge_at edges i = slice_index_or edges i (edge 0 0)
 
 -- each number is above those before it
-abbrev pub IsRising : List ℕ → Type 0
-IsRising numbers = (i j : ℕ) → i < j → j < length numbers → slice_index numbers i < slice_index numbers j
+abbrev pub IsNumberRising : List ℕ → Type 0
+IsNumberRising numbers = (i j : ℕ) → i < j → j < length numbers → slice_index numbers i < slice_index numbers j
 
 -- one edge stands before another: by where they begin, and then by where they end
-abbrev pub IsBefore : Edge → Edge → Type 0
-IsBefore a b = (a.from < b.from) ⊎ ((a.from ≡ b.from) × (a.to < b.to))
+abbrev pub IsEdgeBefore : Edge → Edge → Type 0
+IsEdgeBefore a b = (a.from < b.from) ⊎ ((a.from ≡ b.from) × (a.to < b.to))
 
 -- each edge stands after those before it
 abbrev pub AreRising : List Edge → Type 0
-AreRising edges = (i j : ℕ) → i < j → j < length edges → IsBefore (edge_at edges i) (edge_at edges j)
+AreRising edges = (i j : ℕ) → i < j → j < length edges → IsEdgeBefore (edge_at edges i) (edge_at edges j)
 
 -- an edge joins two different numbers of the list
 pub record Joins (numbers : List ℕ) (e : Edge) : Type 0 where
@@ -35,7 +35,7 @@ pub record Joins (numbers : List ℕ) (e : Edge) : Type 0 where
 
 -- numbers and edges rise, and each edge joins two of the numbers
 pub record IsNetwork (g : Network) : Type 0 where
-  pub numbers : IsRising g.numbers
+  pub numbers : IsNumberRising g.numbers
   pub edges : AreRising g.edges
   pub joins : (i : ℕ) → i < length g.edges → Joins g.numbers (edge_at g.edges i)
 

@@ -1,11 +1,11 @@
 -- The classes of a graph, and the order in which they are listed.
 use Rattle.std.specs.Prelude.{◌≡◌, ℕ, ◌<◌, ◌≤◌, ◌⊎◌, ◌↔◌, List, [], take, Contains, length, slice_index, slice_index_or}
-use Rattle.rpm_graph.specs.Networks.{Network, HasEdge, AreTogether, IsRising}
+use Rattle.rpm_graph.specs.Networks.{Network, HasEdge, AreTogether, IsNumberRising}
 
 -- all numbers that are together with one of them, rising
 pub record IsClass (g : Network) (class : List ℕ) : Type 0 where
   pub some : 0 < length class
-  pub rises : IsRising class
+  pub rises : IsNumberRising class
   pub whole : (n m : ℕ) → Contains class n → Contains class m ↔ (Contains g.numbers m × AreTogether (HasEdge g) n m)
 
 -- a number stands in one of the classes
@@ -23,13 +23,13 @@ abbrev pub least : List ℕ → ℕ
 least class = slice_index class 0
 
 -- the next class is the available one with the least number
-pub record IsNext (g : Network) (listed : List (List ℕ)) (class : List ℕ) : Type 0 where
+pub record IsNextClass (g : Network) (listed : List (List ℕ)) (class : List ℕ) : Type 0 where
   pub available : IsAvailable g listed class
   pub first : (other : List ℕ) → IsAvailable g listed other → least class ≤ least other
 
 -- the list of classes in which each is the next one after those before it, and in which each number stands
 pub record IsOrder (g : Network) (classes : List (List ℕ)) : Type 0 where
-  pub each : (k : ℕ) → k < length classes → IsNext g (take k classes) (slice_index_or classes k [])
+  pub each : (k : ℕ) → k < length classes → IsNextClass g (take k classes) (slice_index_or classes k [])
   pub all : (n : ℕ) → Contains g.numbers n → Lists classes n
 
 -- the number stands in the class at place k
@@ -38,7 +38,8 @@ StandsAt classes n k = (k < length classes) × Contains (slice_index_or classes 
 
 -- each number of the graph stands in one class, and in no other
 abbrev pub StandOnce : Network → List (List ℕ) → Type 0
-StandOnce g classes = (n : ℕ) → Contains g.numbers n → (k : ℕ) × StandsAt classes n k × ((j : ℕ) → StandsAt classes n j → j ≡ k)
+StandOnce g classes = (n : ℕ) → Contains g.numbers n → (k : ℕ) × StandsAt classes n k
+    × ((j : ℕ) → StandsAt classes n j → j ≡ k)
 
 -- where an edge goes from n to m, the class of m stands before that of n, or both are one
 abbrev pub EdgesGoBack : Network → List (List ℕ) → Type 0

@@ -2,7 +2,7 @@
 //! least number.
 
 ghost use Rattle.std.specs.Prelude.{◌≡◌, ℕ, ◌<◌, ◌≤◌, IfOk, length, slice_index_or, [], List, All, map};
-ghost use Rattle.rpm_graph.specs.Prelude.{EdgesGoBack, IsOnlyOrder, IsOrder, rows_of, StandOnce};
+ghost use Rattle.rpm_graph.specs.Prelude.{EdgesGoBack, IsOnlyOrder, IsOrder, row_lists, StandOnce};
 
 use crate::graph::Graph;
 use crate::grouping::{class_rows, least_numbers, members};
@@ -22,7 +22,7 @@ pub struct ClassList {
 impl Model for ClassList {
     ghost Value = { List (List ℕ) };
 
-    ghost view = { λ l. map (λ c. slice_index_or (rows_of l.members.items) c []) l.order.items };
+    ghost view = { λ l. map (λ c. slice_index_or (row_lists l.members.items) c []) l.order.items };
 
     ghost invariant = { λ l. All (λ c. c < length l.members.items) l.order.items };
 }

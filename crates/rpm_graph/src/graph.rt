@@ -1,7 +1,7 @@
 //! A graph: numbers that rise, and edges between them that rise.
 
 ghost use Rattle.std.specs.Prelude.{◌≡◌, ℕ, ◌++◌, ◌∷◌, [], All, ◌<◌, OnOk, OnErr};
-ghost use Rattle.rpm_graph.specs.Prelude.{edge, IsBefore, IsNetwork, Joins, Network};
+ghost use Rattle.rpm_graph.specs.Prelude.{edge, IsEdgeBefore, IsNetwork, Joins, Network};
 
 use std::alloc::{AllocError, Global};
 use std::marker::Model;
@@ -54,7 +54,7 @@ impl Graph {
     /// Adds an edge after those that are there. `Err` where memory is refused, which leaves the graph as it was.
     pub fn push_edge(&mut self, from: u32, to: u32) -> Result<(), AllocError>
         requires joins { Joins self.old.numbers (edge from to) }
-        requires behind { All (λ e. IsBefore e (edge from to)) self.old.edges }
+        requires behind { All (λ e. IsEdgeBefore e (edge from to)) self.old.edges }
         ensures added { OnOk result (self.new ≡ record self.old { edges = self.old.edges ++ edge from to ∷ [] }) }
         ensures refused { OnErr result (self.new ≡ self.old) }
     {

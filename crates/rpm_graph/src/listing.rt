@@ -1,7 +1,7 @@
 //! The order of the classes, each known by its number.
 
 ghost use Rattle.std.specs.Prelude.{◌≡◌, ℕ, ◌<◌, ◌≤◌, IfOk, OnOk, Contains, true, false, [], length, replicate, slice_index, slice_index_or, slice_set};
-ghost use Rattle.rpm_graph.specs.Prelude.{AreFalling, AreOthersPlaced, ArePlaced, Goes, IsBegun, IsFirstUnlisted, IsListedNow, IsListing, IsPlaced, IsUnderway, listed_at, rows_of};
+ghost use Rattle.rpm_graph.specs.Prelude.{AreFalling, AreOthersPlaced, ArePlaced, IsEdge, IsBegun, IsFirstUnlisted, IsListedNow, IsListing, IsReadyOrWaits, IsUnderway, listed_at, row_lists};
 
 use crate::rows::{empty_rows, push_link};
 use std::alloc::{AllocError, Global};
@@ -36,15 +36,15 @@ impl Listing {
         ends: &[Vec<usize>],
         leasts: &[u32],
     ) -> Result<(), AllocError>
-        requires underway { IsUnderway (rows_of ends.now) leasts.now self.old }
-        requires falls { AreFalling (rows_of ends.now) }
+        requires underway { IsUnderway (row_lists ends.now) leasts.now self.old }
+        requires falls { AreFalling (row_lists ends.now) }
         requires inside { class < length ends.now }
         requires sized { length leasts.now ≡ length ends.now }
         requires unlisted { listed_at self.old.listed.items class ≡ false }
-        ensures underway { OnOk result (IsUnderway (rows_of ends.now) leasts.now self.new) }
+        ensures underway { OnOk result (IsUnderway (row_lists ends.now) leasts.now self.new) }
         ensures same { OnOk result (self.new.listed.items ≡ self.old.listed.items) }
-        ensures keeps { OnOk result ((c : ℕ) → IsPlaced leasts.now self.old c → IsPlaced leasts.now self.new c) }
-        ensures placed { OnOk result (IsPlaced leasts.now self.new class) }
+        ensures keeps { OnOk result ((c : ℕ) → IsReadyOrWaits leasts.now self.old c → IsReadyOrWaits leasts.now self.new c) }
+        ensures placed { OnOk result (IsReadyOrWaits leasts.now self.new class) }
     {
         let row: &[usize] = &ends[class];
         let at = first_unlisted(row, &self.listed, self.checked[class]);
@@ -62,7 +62,7 @@ impl Listing {
         requires waiting { class < length self.old.waiting.items }
         requires listed { class < length self.old.listed.items }
         ensures listed { IsListedNow class self.old self.new }
-        ensures row { result.items ≡ slice_index_or (rows_of self.old.waiting.items) class [] }
+        ensures row { result.items ≡ slice_index_or (row_lists self.old.waiting.items) class [] }
     {
         self.listed[class] = true;
         mem::replace(&mut self.waiting[class], Vec::new(alloc))
@@ -76,15 +76,15 @@ impl Listing {
         ends: &[Vec<usize>],
         leasts: &[u32],
     ) -> Result<(), AllocError>
-        requires underway { IsUnderway (rows_of ends.now) leasts.now self.old }
-        requires falls { AreFalling (rows_of ends.now) }
+        requires underway { IsUnderway (row_lists ends.now) leasts.now self.old }
+        requires falls { AreFalling (row_lists ends.now) }
         requires inside { class < length ends.now }
         requires sized { length leasts.now ≡ length ends.now }
         requires unlisted { listed_at self.old.listed.items class ≡ false }
-        requires ends_listed { (d : ℕ) → Goes (rows_of ends.now) class d → listed_at self.old.listed.items d ≡ true }
+        requires ends_listed { (d : ℕ) → IsEdge (row_lists ends.now) class d → listed_at self.old.listed.items d ≡ true }
         requires taken { (n : ℕ) → Contains self.old.ready.keys (n, class) → ⊥ }
         requires placed { AreOthersPlaced (length ends.now) class leasts.now self.old }
-        ensures underway { OnOk result (IsUnderway (rows_of ends.now) leasts.now self.new) }
+        ensures underway { OnOk result (IsUnderway (row_lists ends.now) leasts.now self.new) }
         ensures listed { OnOk result (self.new.listed.items ≡ slice_set self.old.listed.items class true) }
         ensures placed { OnOk result (ArePlaced (length ends.now) leasts.now self.new) }
     {
@@ -98,9 +98,9 @@ impl Listing {
 
 // A listing that has listed nothing, with each class in its place.
 fn begin(alloc: Global, ends: &[Vec<usize>], leasts: &[u32]) -> Result<Listing, AllocError>
-    requires falls { AreFalling (rows_of ends.now) }
+    requires falls { AreFalling (row_lists ends.now) }
     requires sized { length leasts.now ≡ length ends.now }
-    ensures underway { IfOk result (λ s. IsUnderway (rows_of ends.now) leasts.now s) }
+    ensures underway { IfOk result (λ s. IsUnderway (row_lists ends.now) leasts.now s) }
     ensures listed { IfOk result (λ s. s.listed.items ≡ replicate (length ends.now) false) }
     ensures placed { IfOk result (λ s. ArePlaced (length ends.now) leasts.now s) }
 {
@@ -120,9 +120,9 @@ pub fn list_classes(
     ends: &[Vec<usize>],
     leasts: &[u32],
 ) -> Result<Vec<usize>, AllocError>
-    requires falls { AreFalling (rows_of ends.now) }
+    requires falls { AreFalling (row_lists ends.now) }
     requires sized { length leasts.now ≡ length ends.now }
-    ensures { IfOk result (λ order. IsListing (rows_of ends.now) leasts.now order.items) }
+    ensures { IfOk result (λ order. IsListing (row_lists ends.now) leasts.now order.items) }
 {
     let mut listing = begin(alloc, ends, leasts)?;
     let mut order = Vec::with_capacity(alloc, ends.len())?;

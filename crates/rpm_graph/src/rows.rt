@@ -1,14 +1,14 @@
 //! A graph's edges as rows of places.
 
 ghost use Rattle.std.specs.Prelude.{◌≡◌, ℕ, ◌<◌, ◌≤◌, ◌+◌, IfOk, OnOk, Contains, length, slice_index, [], replicate};
-ghost use Rattle.rpm_graph.specs.Prelude.{HaveEdges, IsRising, rows_of, with_link};
+ghost use Rattle.rpm_graph.specs.Prelude.{HaveEdges, IsNumberRising, row_lists, with_link};
 
 use crate::graph::Graph;
 use std::alloc::{AllocError, Global};
 
 // So many empty rows.
 pub fn empty_rows(alloc: Global, count: usize) -> Result<Vec<Vec<usize>>, AllocError>
-    ensures { IfOk result (λ rows. rows_of rows.items ≡ replicate count []) }
+    ensures { IfOk result (λ rows. row_lists rows.items ≡ replicate count []) }
 {
     let mut rows = Vec::with_capacity(alloc, count)?;
     for _ in 0..count {
@@ -20,7 +20,7 @@ pub fn empty_rows(alloc: Global, count: usize) -> Result<Vec<Vec<usize>>, AllocE
 // Puts one more place at the end of a row.
 pub fn push_link(rows: &mut [Vec<usize>], from: usize, to: usize) -> Result<(), AllocError>
     requires { from < length rows.old }
-    ensures { OnOk result (rows_of rows.new ≡ with_link (rows_of rows.old) from to) }
+    ensures { OnOk result (row_lists rows.new ≡ with_link (row_lists rows.old) from to) }
 {
     rows[from].push(to)?;
     Ok(())
@@ -28,7 +28,7 @@ pub fn push_link(rows: &mut [Vec<usize>], from: usize, to: usize) -> Result<(), 
 
 // Where the number stands.
 fn place_of(numbers: &[u32], number: u32) -> usize
-    requires rises { IsRising numbers.now }
+    requires rises { IsNumberRising numbers.now }
     requires there { Contains numbers.now number }
     ensures inside { result < length numbers.now }
     ensures there { slice_index numbers.now result ≡ number }
@@ -41,7 +41,7 @@ fn place_of(numbers: &[u32], number: u32) -> usize
 
 // For each place the places that its edges end at.
 pub fn rows(alloc: Global, graph: &Graph) -> Result<Vec<Vec<usize>>, AllocError>
-    ensures { IfOk result (λ rows. HaveEdges graph.now (length graph.now.edges) (rows_of rows.items)) }
+    ensures { IfOk result (λ rows. HaveEdges graph.now (length graph.now.edges) (row_lists rows.items)) }
 {
     let numbers = graph.numbers();
     let mut rows = empty_rows(alloc, numbers.len())?;

@@ -1,7 +1,7 @@
 //! The search for the classes, one level of the path at a time.
 
 ghost use Rattle.std.specs.Prelude.{◌≡◌, ℕ, ◌+◌, ◌-◌, ◌*◌, ◌++◌, ◌∷◌, [], ◌<◌, ◌≤◌, ◌⊎◌, map, length, slice_index, OnOk, IfOk, IfSome, IfNone, ◌^◌};
-ghost use Rattle.rpm_graph.specs.Prelude.{AreWithin, IsClosed, IsCut, IsEntered, IsFresh, IsLast, IsLowered, IsMarked, IsSplit, KeepsSeen, link, link_at, NoneWaits, rows_of, Searches, work};
+ghost use Rattle.rpm_graph.specs.Prelude.{AreWithin, IsClosed, IsFrontOfRoots, IsEntered, IsFreshSearch, IsLastRoot, IsLowered, IsMarked, IsSplit, KeepsSeen, link, link_at, NoneWaits, row_lists, Searches, work};
 
 use std::alloc::{AllocError, Global};
 
@@ -24,7 +24,7 @@ pub struct Search {
 impl Search {
     // A search that has entered nothing.
     pub fn new(alloc: Global, count: usize) -> Result<Search, AllocError>
-        ensures { IfOk result (λ s. IsFresh count s) }
+        ensures { IfOk result (λ s. IsFreshSearch count s) }
     {
         Ok(Search {
             ranks: vec![in alloc; 0; count]?,
@@ -63,12 +63,12 @@ impl Search {
 
     // Looks at one more edge from the last level, or closes that level where there is none.
     pub fn step(&mut self, root: usize, rows: &[Vec<usize>]) -> Result<(), AllocError>
-        requires searched { Searches (rows_of rows.now) self.old }
-        requires within { AreWithin (rows_of rows.now) }
+        requires searched { Searches (row_lists rows.now) self.old }
+        requires within { AreWithin (row_lists rows.now) }
         requires small { length rows.now < 2 ^ 59 }
-        requires last { IsLast self.old.roots.items root }
-        ensures searched { OnOk result (Searches (rows_of rows.now) self.new) }
-        ensures smaller { OnOk result (work (rows_of rows.now) self.new < work (rows_of rows.now) self.old) }
+        requires last { IsLastRoot self.old.roots.items root }
+        ensures searched { OnOk result (Searches (row_lists rows.now) self.new) }
+        ensures smaller { OnOk result (work (row_lists rows.now) self.new < work (row_lists rows.now) self.old) }
         ensures keeps { OnOk result (KeepsSeen self.old.ranks.items self.new.ranks.items) }
     {
         match take_waiting(&mut self.pending, &self.ranks, root) {
@@ -89,12 +89,12 @@ impl Search {
 impl Search {
     // Enters the place where that is still to be done, and goes on until the path is empty.
     pub fn explore(&mut self, place: usize, rows: &[Vec<usize>]) -> Result<(), AllocError>
-        requires searched { Searches (rows_of rows.now) self.old }
-        requires within { AreWithin (rows_of rows.now) }
+        requires searched { Searches (row_lists rows.now) self.old }
+        requires within { AreWithin (row_lists rows.now) }
         requires small { length rows.now < 2 ^ 59 }
         requires inside { place < length rows.now }
         requires empty { self.old.path.items ≡ [] }
-        ensures searched { OnOk result (Searches (rows_of rows.now) self.new) }
+        ensures searched { OnOk result (Searches (row_lists rows.now) self.new) }
         ensures empty { OnOk result (self.new.path.items ≡ []) }
         ensures keeps { OnOk result (KeepsSeen self.old.ranks.items self.new.ranks.items) }
         ensures seen { OnOk result (1 ≤ slice_index self.new.ranks.items place) }
@@ -144,7 +144,7 @@ fn put_row(pending: &mut Vec<Link>, place: usize, row: &[usize]) -> Result<(), A
 
 // Takes off the roots that are at the rank or above.
 fn join(roots: &mut Vec<usize>, rank: usize)
-    ensures cut { IsCut roots.old.items rank roots.new.items }
+    ensures cut { IsFrontOfRoots roots.old.items rank roots.new.items }
     ensures last { 0 < length roots.new.items → slice_index roots.new.items (length roots.new.items - 1) < rank }
 {
     while let Some(root) = roots.last() {
@@ -187,9 +187,9 @@ pub struct Split {
 /// Gabow's search along a path, with a stack for the path, one for its levels and one for the edges that wait: each
 /// place and each edge is looked at once, and nothing calls itself. `Err` where memory is refused.
 pub fn find_classes(alloc: Global, rows: &[Vec<usize>]) -> Result<Split, AllocError>
-    requires within { AreWithin (rows_of rows.now) }
+    requires within { AreWithin (row_lists rows.now) }
     requires small { length rows.now < 2 ^ 59 }
-    ensures { IfOk result (λ s. IsSplit (rows_of rows.now) s.classes.items s.count) }
+    ensures { IfOk result (λ s. IsSplit (row_lists rows.now) s.classes.items s.count) }
 {
     let mut search = Search::new(alloc, rows.len())?;
     for place in 0..rows.len() {

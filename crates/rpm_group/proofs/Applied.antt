@@ -4,8 +4,8 @@ use Rattle.rpm_outside.specs.declared.disk.Disk as disk
 use Rattle.std.proofs.lemmas.List.{append-nil, length-take, length-drop}
 use Rattle.std.proofs.lemmas.Bool.{cases_eq}
 use Rattle.rpm_group.proofs.Vocabulary.{before, Closed, Covers, Entry, entry_at, entry_units, File, file_of, Files, HasUnit, Head, head_parts, HeadIs, heads}
-use Rattle.rpm_group.proofs.Vocabulary.{heads_done, heads_more, heads_right, heads_wrong, is_head, leaves_then, leaves_weaker, LeavesChanged, LeavesOnly}
-use Rattle.rpm_group.proofs.Vocabulary.{LogState, Malformed, Open, put, unit_at, Units, WasChanged, WasWithin, with_entries, with_entry, with_file}
+use Rattle.rpm_group.proofs.Vocabulary.{heads_done, heads_more, heads_right, heads_wrong, is_log_head, leaves_then, leaves_weaker, CrashChanges, CrashLeavesOnly}
+use Rattle.rpm_group.proofs.Vocabulary.{LogState, Malformed, Open, with_units, unit_at, Units, WasChanged, WasWithin, with_entries, with_entry, with_file}
 use Rattle.rpm_group.proofs.Vocabulary.{within_changed, word}
 
 pub with_entries-append : (es fs : List Entry) (files : Files) → with_entries (es ++ fs) files ≡ with_entries fs (with_entries es files)
@@ -30,13 +30,13 @@ before_is p last log left rest (Open more) is e =
     record { more = more; is = (let f : Open (entry_at p log ∷ more) ≡ Open rest = e in let g : entry_at p log ∷ more ≡ rest = cc in sym g); next = is }
 
 pub left_right : (n p last : ℕ) (log : Units) (left : ℕ) (rest : List Entry) → n ≡ suc left → heads n p last log ≡ Open rest
-    → is_head last p (unit_at log p) ≡ true → Left p last log left rest
+    → is_log_head last p (unit_at log p) ≡ true → Left p last log left rest
 left_right n p last log left rest is_n is right =
     before_is p last log left rest (heads left (p + 1 + word 2 (unit_at log p)) last log) refl
     (sym (heads_right p last log left right) ∙ ap (λ (k : ℕ). heads k p last log) (sym is_n) ∙ is)
 
 pub left_wrong : (n p last : ℕ) (log : Units) (left : ℕ) (rest : List Entry) → n ≡ suc left → heads n p last log ≡ Open rest
-    → is_head last p (unit_at log p) ≡ false → ⊥
+    → is_log_head last p (unit_at log p) ≡ false → ⊥
 left_wrong n p last log left rest is_n is wrong =
     let e : Malformed p ≡ Open rest = sym (heads_wrong p last log left wrong) ∙ ap (λ (k : ℕ). heads k p last log) (sym is_n) ∙ is in
     cc
@@ -87,7 +87,8 @@ module _ (entries : List Entry) (n p last : ℕ) (log : Units) (old mid new : Fi
       }))
 
   pub done_more : (m next : ℕ) (source : Units) → m ≡ left → next ≡ p + 1 + word 2 (unit_at log p) → source ≡ log
-      → new ≡ with_file head.file (put head.first (take head.count (drop (p + 1) source)) (file_of head.file mid)) mid → Done entries m next last log old new
+      → new ≡ with_file head.file (with_units head.first (take head.count (drop (p + 1) source)) (file_of head.file mid)) mid
+      → Done entries m next last log old new
   done_more m next source is_m is_next same written = record {
     done = so_far.done ++ entry ∷ [];
     rest = here.more;
@@ -95,11 +96,11 @@ module _ (entries : List Entry) (n p last : ℕ) (log : Units) (old mid new : Fi
     heads_left = ap (λ (k : ℕ). heads k next last log) is_m ∙ ap (λ (k : ℕ). heads left k last log) is_next ∙ here.next;
     files =
         written
-        ∙ ap (λ (us : Units). with_file head.file (put head.first (take head.count (drop (p + 1) us)) (file_of head.file mid)) mid) same
-        ∙ ap (λ (k : ℕ). with_file head.file (put head.first (take k (drop (p + 1) log)) (file_of head.file mid)) mid) says.count
-        ∙ ap (λ (us : Units). with_file head.file (put head.first us (file_of head.file mid)) mid) (sym (entry_units p log))
-        ∙ ap (λ (k : ℕ). with_file head.file (put k entry.units (file_of head.file mid)) mid) says.first
-        ∙ ap (λ (f : File). with_file f (put entry.first entry.units (file_of f mid)) mid) says.file
+        ∙ ap (λ (us : Units). with_file head.file (with_units head.first (take head.count (drop (p + 1) us)) (file_of head.file mid)) mid) same
+        ∙ ap (λ (k : ℕ). with_file head.file (with_units head.first (take k (drop (p + 1) log)) (file_of head.file mid)) mid) says.count
+        ∙ ap (λ (us : Units). with_file head.file (with_units head.first us (file_of head.file mid)) mid) (sym (entry_units p log))
+        ∙ ap (λ (k : ℕ). with_file head.file (with_units k entry.units (file_of head.file mid)) mid) says.first
+        ∙ ap (λ (f : File). with_file f (with_units entry.first entry.units (file_of f mid)) mid) says.file
         ∙ ap (λ (f : Files). with_entry entry f) so_far.files
         ∙ sym (with_entries-append so_far.done (entry ∷ []) old);
   }
@@ -115,8 +116,8 @@ module _ {D : Type 0} (g : disk.Ghosts D) where
   pub within_more : (entries : List Entry) (file : File) (first end : ℕ) (old mid new : D) → first < end
       → ((i : ℕ) → first ≤ i → i < end → Covers entries file i)
       → ((image : Files) → g.left_since mid (g.moment mid) image → g.left_since mid (g.moment old) image)
-      → LeavesOnly g old mid (WasWithin entries (g.left_since old (g.moment old))) → LeavesChanged g file first end mid new
-      → LeavesOnly g old new (WasWithin entries (g.left_since old (g.moment old)))
+      → CrashLeavesOnly g old mid (WasWithin entries (g.left_since old (g.moment old))) → CrashChanges g file first end mid new
+      → CrashLeavesOnly g old new (WasWithin entries (g.left_since old (g.moment old)))
   within_more entries file first end old mid new some covers earlier one two =
       leaves_then g old mid new (WasWithin entries (g.left_since old (g.moment old))) one
       (leaves_weaker g mid new (WasChanged file first end (g.left_since mid (g.moment mid))) (WasWithin entries (g.left_since old (g.moment old)))

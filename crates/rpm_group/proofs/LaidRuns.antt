@@ -2,15 +2,15 @@
 use Rattle.std.proofs.Common.{◌≡◌, inl, inr, ℕ, ◌-◌, ◌<◌, List, sym, ap, subst, ◌∙◌, arith}
 use Rattle.std.specs.Prelude.{Option, None, unwrap_or}
 use Rattle.std.proofs.lemmas.Bool.{cases_lt}
-use Rattle.rpm_group.proofs.Vocabulary.{cases_file, EndsAt, Entry, File, file_of, file_of-with, Files, held_at, Idx, laid, Log, Logged, other_file, Pkg}
+use Rattle.rpm_group.proofs.Vocabulary.{cases_file, IsHeldBelow, Entry, File, file_of, file_of-with, Files, held_at, Idx, laid_units, Log, EntriesOfTable, other_file, Pkg}
 use Rattle.rpm_group.proofs.Vocabulary.{same_units, Table, unit_at, Units, with_entries, with_file}
 use Rattle.rpm_group.proofs.Laids.{length-laid, unit_at-laid}
 use Rattle.rpm_group.proofs.LoggedLaws.{unheld_is}
 
 -- all runs together are what is held
-pub logged_laid : (entries : List Entry) (file : File) (table : Table) (end : ℕ) → Logged entries file table end → EndsAt table end
+pub logged_laid : (entries : List Entry) (file : File) (table : Table) (end : ℕ) → EntriesOfTable entries file table end → IsHeldBelow table end
     → (0 < end → held_at table (end - 1) ≡ None → ⊥)
-    → (files : Files) → with_entries entries files ≡ with_file file (laid table end (file_of file files)) files
+    → (files : Files) → with_entries entries files ≡ with_file file (laid_units table end (file_of file files)) files
 logged_laid entries file table end all past last files = same_files (with_entries entries files) (with_file file whole files)
     (λ other. elim (cases_file other file) [
       | inl same ↦ subst (λ (g : File). file_of g (with_entries entries files) ≡ file_of g (with_file file whole files)) (sym same)
@@ -19,7 +19,7 @@ logged_laid entries file table end all past last files = same_files (with_entrie
     ])
   where
     whole : Units
-    whole = laid table end (file_of file files)
+    whole = laid_units table end (file_of file files)
 
     same_files : (a b : Files) → ((f : File) → file_of f a ≡ file_of f b) → a ≡ b
     same_files a b same =

@@ -1,7 +1,7 @@
 pub mod Counts
 mod Fixtures
-pub mod GateOpens
-pub mod Gates
+pub mod CommitRecordOpens
+pub mod CommitRecords
 pub mod Copies
 pub mod Applied
 pub mod Closes

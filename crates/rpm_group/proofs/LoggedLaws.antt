@@ -4,7 +4,7 @@ use Rattle.std.specs.Prelude.{Option, Some, None, is_some, unwrap_or}
 use Rattle.std.proofs.lemmas.Bool.{cases_lt}
 use Rattle.std.proofs.lemmas.List.{length_push}
 use Rattle.rpm_group.proofs.Vocabulary.{AreHeld, begins_run, blank, count_below, Covers, Entry, File, file_of, file_of-with, Files, held_at, is_held}
-use Rattle.rpm_group.proofs.Vocabulary.{length-put, Logged, other_file, put, put_after, put_before, put_inside, run_entry, Table, unit_at, unit_over, Units}
+use Rattle.rpm_group.proofs.Vocabulary.{length-put, EntriesOfTable, other_file, with_units, put_after, put_before, put_inside, run_entry, Table, unit_at, unit_over, Units}
 use Rattle.rpm_group.proofs.Vocabulary.{with_entries}
 use Rattle.rpm_group.proofs.Orders.{runs_more, runs_push}
 use Rattle.rpm_group.proofs.Applied.{with_entries-append}
@@ -31,7 +31,7 @@ held_is (Some u) a b is = refl
 pub unheld_over : (table : Table) (file : Units) (i : ℕ) → is_held table i ≡ false → unit_over table file i ≡ unit_at file i
 unheld_over table file i none = ap (λ (o : Option (List ℕ)). unwrap_or o (unit_at file i)) (unheld_is (held_at table i) none)
 
-pub logged_none : (file : File) (table : Table) → count_below (begins_run table) 0 ≡ 0 → Logged [] file table 0
+pub logged_none : (file : File) (table : Table) → count_below (begins_run table) 0 ≡ 0 → EntriesOfTable [] file table 0
 logged_none file table none = record {
   covers = λ i below held. absurd (omega (arith, below));
   units = λ files i below. absurd (omega (arith, below));
@@ -45,10 +45,10 @@ logged_none file table none = record {
   runs = omega arith;
 }
 
-module _ (entries : List Entry) (file : File) (table : Table) (at first : ℕ) (so_far : Logged entries file table at) (low : at ≤ first)
+module _ (entries : List Entry) (file : File) (table : Table) (at first : ℕ) (so_far : EntriesOfTable entries file table at) (low : at ≤ first)
     (between : (i : ℕ) → at ≤ i → i < first → is_held table i ≡ false) where
   -- units that aren't held need no entry
-  pub logged_gap : count_below (begins_run table) first ≡ count_below (begins_run table) at → Logged entries file table first
+  pub logged_gap : count_below (begins_run table) first ≡ count_below (begins_run table) at → EntriesOfTable entries file table first
   logged_gap counted = record {
     covers = λ i below held. elim (cases_lt i at) [
       | inl before ↦ so_far.covers i before held
@@ -81,12 +81,12 @@ module _ (entries : List Entry) (file : File) (table : Table) (at first : ℕ) (
     long_entry : length entry.units ≡ stop - first
     long_entry = length-units_held table first (stop - first)
 
-    written : (files : Files) → file_of file (with_entries all files) ≡ put first entry.units (file_of file (with_entries entries files))
+    written : (files : Files) → file_of file (with_entries all files) ≡ with_units first entry.units (file_of file (with_entries entries files))
     written files = ap (λ (f : Files). file_of file f) (with_entries-append entries (entry ∷ []) files)
-        ∙ file_of-with file (put first entry.units (file_of file (with_entries entries files))) (with_entries entries files)
+        ∙ file_of-with file (with_units first entry.units (file_of file (with_entries entries files))) (with_entries entries files)
 
     -- one run more
-    pub logged_more : count_below (begins_run table) stop ≡ count_below (begins_run table) at + 1 → Logged all file table stop
+    pub logged_more : count_below (begins_run table) stop ≡ count_below (begins_run table) at + 1 → EntriesOfTable all file table stop
     logged_more counted = record {
       covers = λ i below h. elim (cases_lt i at) [
         | inl before ↦ covers_before entries (entry ∷ []) file i (so_far.covers i before h)
@@ -108,7 +108,7 @@ module _ (entries : List Entry) (file : File) (table : Table) (at first : ℕ) (
             let place : i ≡ first + k = omega arith in
             let less : k < stop - first = omega arith in
             ap (λ (u : Units). unit_at u i) (written files)
-            ∙ ap (λ (j : ℕ). unit_at (put first entry.units (file_of file (with_entries entries files))) j) place
+            ∙ ap (λ (j : ℕ). unit_at (with_units first entry.units (file_of file (with_entries entries files))) j) place
             ∙ put_inside first entry.units (file_of file (with_entries entries files)) k (omega (arith, long_entry, less))
             ∙ unit_at-units_held table first (stop - first) k less
             ∙ ap (λ (j : ℕ). unwrap_or (held_at table j) blank) (sym place)
@@ -120,7 +120,7 @@ module _ (entries : List Entry) (file : File) (table : Table) (at first : ℕ) (
           ∙ so_far.rest files i (omega (arith, past, low, some));
       others = λ files other differ.
           ap (λ (f : Files). file_of other f) (with_entries-append entries (entry ∷ []) files)
-          ∙ other_file other file (put first entry.units (file_of file (with_entries entries files))) (with_entries entries files) differ
+          ∙ other_file other file (with_units first entry.units (file_of file (with_entries entries files))) (with_entries entries files) differ
           ∙ so_far.others files other differ;
       end = stop;
       long = λ files. omega (

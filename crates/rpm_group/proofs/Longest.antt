@@ -2,7 +2,7 @@
 use Rattle.std.proofs.Common.{inl, inr, ℕ, zero, suc, ◌*◌, ◌≤◌, length, arith}
 use Rattle.std.specs.Prelude.{Bool}
 use Rattle.std.proofs.lemmas.Bool.{cases_Bool}
-use Rattle.rpm_group.proofs.Vocabulary.{begins_run, count_below, Files, is_held, laid_file, laid_files, Layers, longest_log, needed, Pages, Units}
+use Rattle.rpm_group.proofs.Vocabulary.{begins_run, count_below, Files, is_held, laid_file, laid_files, Layers, longest_log, needed_units, Pages, Units}
 use Rattle.rpm_group.proofs.Vocabulary.{units_of_log}
 use Rattle.rpm_group.proofs.Counts.{step, step_one}
 use Rattle.rpm_group.proofs.Laids.{length-laid}
@@ -23,5 +23,5 @@ units_most pages file = omega (
   length-laid pages.table.items pages.end file,
 )
 
-pub needed_most : (held : Layers) (files : Files) → needed held ≤ longest_log (laid_files held files)
+pub needed_most : (held : Layers) (files : Files) → needed_units held ≤ longest_log (laid_files held files)
 needed_most held files = omega (arith, units_most held.pkg files.pkg, units_most held.idx files.idx)

@@ -1,7 +1,7 @@
 -- Entries in their order, and a log that keeps them.
 use Rattle.std.proofs.Common.{◌≡◌, ℕ, ◌+◌, ◌<◌, ◌≤◌, List, [], ◌∷◌, ◌++◌, length, sym, ap, ◌∙◌, subst, arith}
-use Rattle.rpm_group.proofs.Vocabulary.{AreRuns, entries_end, entries_kept, EntriesIn, Entry, File, Files, HeadsEndInZeros, IsGroup, IsLogged, KeepsBehind}
-use Rattle.rpm_group.proofs.Vocabulary.{Layers, length-put, Log, needed, put, put_after, unit_at, Units, with_file, word}
+use Rattle.rpm_group.proofs.Vocabulary.{AreRuns, entries_end, entries_kept, EntriesIn, Entry, File, Files, HeadsEndInZeros, IsTransaction, IsLogged, KeepsBehind}
+use Rattle.rpm_group.proofs.Vocabulary.{Layers, length-put, Log, needed_units, with_units, put_after, unit_at, Units, with_file, word}
 
 pub runs_more : (file : File) (from a b : ℕ) (entries : List Entry) → AreRuns file from a entries → a ≤ b → AreRuns file from b entries
 runs_more file from a b [] is le = omega (arith, is, le)
@@ -14,16 +14,16 @@ runs_push file from a b (e ∷ es) entry (one, first, rest) same low high =
     (one, first, runs_push file (e.first + length e.units) a b es entry rest same low high)
 
 -- a commit record that is written leaves what is after it
-pub gate_keeps : (unit : List ℕ) (units : Units) (files mid new : Files) → units ≡ unit ∷ [] → mid ≡ with_file Log (put 0 units files.log) files
+pub commit_record_keeps : (unit : List ℕ) (units : Units) (files mid new : Files) → units ≡ unit ∷ [] → mid ≡ with_file Log (with_units 0 units files.log) files
     → new ≡ mid → KeepsBehind 1 files.log new.log
-gate_keeps unit units files mid new one written same = record {
+commit_record_keeps unit units files mid new one written same = record {
   same = λ i low. ap (λ (us : Units). unit_at us i) is ∙ put_after 0 (unit ∷ []) files.log i low;
   no_shorter = omega (arith, ap length is, length-put 0 (unit ∷ []) files.log);
   no_longer = omega (arith, ap length is, length-put 0 (unit ∷ []) files.log);
 }
   where
-    is : new.log ≡ put 0 (unit ∷ []) files.log
-    is = ap (λ (f : Files). f.log) (same ∙ written) ∙ ap (λ (us : Units). put 0 us files.log) one
+    is : new.log ≡ with_units 0 (unit ∷ []) files.log
+    is = ap (λ (f : Files). f.log) (same ∙ written) ∙ ap (λ (us : Units). with_units 0 us files.log) one
 
 pub keeps_then : (end : ℕ) (a b c : Units) → KeepsBehind end a b → KeepsBehind end b c → KeepsBehind end a c
 keeps_then end a b c one two = record {
@@ -57,14 +57,14 @@ pub heads_then : (es fs : List Entry) (p q : ℕ) (log : Units) → EntriesIn es
 heads_then [] fs p q log is heads rest = subst (λ (i : ℕ). HeadsEndInZeros fs i log) (sym is) rest
 heads_then (e ∷ es) fs p q log (one, more) (zero_here, heads) rest = (zero_here, heads_then es fs (p + 1 + length e.units) q log more heads rest)
 
--- the entries of a group stay after the commit record
-pub group_logged : (held : Layers) (entries : List Entry) (end : ℕ) (old new : Units) → IsGroup entries held → EntriesIn entries 1 end old
-    → HeadsEndInZeros entries 1 old → end ≡ needed held → KeepsBehind 1 old new → IsLogged held new
-group_logged held entries end old new group placed heads is keeps = record {
+-- the entries of a transaction stay after the commit record
+pub transaction_logged : (held : Layers) (entries : List Entry) (end : ℕ) (old new : Units) → IsTransaction entries held → EntriesIn entries 1 end old
+    → HeadsEndInZeros entries 1 old → end ≡ needed_units held → KeepsBehind 1 old new → IsLogged held new
+transaction_logged held entries end old new transaction placed heads is keeps = record {
   entries = entries;
   placed = subst (λ (n : ℕ). EntriesIn entries 1 n new) is
       (entries_kept entries 1 end old new (λ i low high. keeps.same i low) keeps.no_shorter placed);
   heads = heads_kept entries 1 end old new (λ i low high. keeps.same i low) placed heads;
-  order = group.order;
-  whole = λ files. ap (λ (f : Files). record { pkg = f.pkg; idx = f.idx; log = [] }) (group.whole files);
+  order = transaction.order;
+  whole = λ files. ap (λ (f : Files). record { pkg = f.pkg; idx = f.idx; log = [] }) (transaction.whole files);
 }

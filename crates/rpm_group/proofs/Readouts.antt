@@ -4,7 +4,7 @@ use Rattle.std.specs.Prelude.{OnOk, Option, Some, None, is_some, unwrap_or, fals
 use Rattle.std.proofs.lemmas.List.{length-take, length-drop, get_or-take, get_or-drop, get_or_append_left, get_or-append_right, get_or-replicate, get_or_past, length-replicate, same_lists}
 use Rattle.std.proofs.lemmas.Bool.{cases_lt}
 use borrow.Rule.Slice.PartMut.{put_mid}
-use Rattle.rpm_group.proofs.Vocabulary.{blank, EndsAt, held_at, laid, LaysOver, length-cut_up, same_units, Table, unit_at, unit_in, Units, units_of}
+use Rattle.rpm_group.proofs.Vocabulary.{blank, IsHeldBelow, held_at, laid_units, LaysOver, length-cut_up, same_units, Table, unit_at, unit_in, Units, units_of}
 use Rattle.rpm_group.proofs.ByteLaws.{length-put_mid, get_or_put_inside}
 use Rattle.rpm_group.proofs.Laids.{unit_of_bytes, unit_at-laid}
 
@@ -77,23 +77,23 @@ module _ (file : Units) (unit t n a size : ℕ) (into front zeros : List ℕ) (i
   read_units k below = elim (cases_lt k t) [ inl before ↦ first k before | inr past ↦ last k past below ]
 
 -- what is held laid over what was read
-pub read_laid : (table : Table) (end : ℕ) (file : Units) (unit n : ℕ) (read into : List ℕ) → EndsAt table end → n ≡ length into / 16
-    → length read ≡ length into → unit + n ≤ length (laid table end file)
+pub read_laid : (table : Table) (end : ℕ) (file : Units) (unit n : ℕ) (read into : List ℕ) → IsHeldBelow table end → n ≡ length into / 16
+    → length read ≡ length into → unit + n ≤ length (laid_units table end file)
     → ((k : ℕ) → k < n → is_some (held_at table (unit + k)) ≡ false → unit_in read k ≡ unit_at file (unit + k)) → LaysOver unit table read into
-    → units_of into ≡ take n (drop unit (laid table end file))
-read_laid table end file unit n read into past is_n same_long within units lays = same_units (units_of into) (take n (drop unit (laid table end file)))
-    (omega (arith, length-cut_up (length into / 16) into, length-take n (drop unit (laid table end file)), length-drop unit (laid table end file)))
+    → units_of into ≡ take n (drop unit (laid_units table end file))
+read_laid table end file unit n read into past is_n same_long within units lays = same_units (units_of into) (take n (drop unit (laid_units table end file)))
+    (omega (arith, length-cut_up (length into / 16) into, length-take n (drop unit (laid_units table end file)), length-drop unit (laid_units table end file)))
     (λ k. elim (cases_lt k n) [
       | inl below ↦
           unit_of_bytes into k (omega arith)
           ∙ lays k (omega (arith, same_long))
           ∙ either (held_at table (unit + k)) (unit_in read k) (unit_at file (unit + k)) (units k below)
           ∙ sym (unit_at-laid table end file past (unit + k))
-          ∙ sym (get_or-drop unit (laid table end file) k blank)
-          ∙ sym (get_or-take n (drop unit (laid table end file)) k blank below)
+          ∙ sym (get_or-drop unit (laid_units table end file) k blank)
+          ∙ sym (get_or-take n (drop unit (laid_units table end file)) k blank below)
       | inr out ↦
           get_or_past (units_of into) k blank (omega (arith, length-cut_up (length into / 16) into))
-          ∙ sym (get_or_past (take n (drop unit (laid table end file))) k blank (omega (arith, length-take n (drop unit (laid table end file)))))
+          ∙ sym (get_or_past (take n (drop unit (laid_units table end file))) k blank (omega (arith, length-take n (drop unit (laid_units table end file)))))
     ])
   where
     either : (o : Option (List ℕ)) (a b : List ℕ) → (is_some o ≡ false → a ≡ b) → unwrap_or o a ≡ unwrap_or o b

@@ -4,7 +4,7 @@ use Rattle.std.specs.Prelude.{unwrap_or}
 use Rattle.std.proofs.lemmas.List.{get_or_past, get_or_append_left, get_or-append_right}
 use Rattle.std.proofs.lemmas.List.FromFn.{length-map-range_with_len, get_or-map-range_with_len}
 use Rattle.std.proofs.lemmas.Bool.{cases_lt}
-use Rattle.rpm_group.proofs.Vocabulary.{blank, File, file_of, file_of-with, Files, held_at, put, put_some, put_some_append, put_some_is, same_units, Table}
+use Rattle.rpm_group.proofs.Vocabulary.{blank, File, file_of, file_of-with, Files, held_at, with_units, put_some, put_some_append, put_some_is, same_units, Table}
 use Rattle.rpm_group.proofs.Vocabulary.{unit_at, Units, units_held, with_file, with_file-with_file}
 
 held_unit : Table → ℕ → List ℕ
@@ -59,15 +59,15 @@ units_held-append table from a b next is = same_units (units_held table from (a 
 module _ (table : Table) (file : File) (at from done stop n place : ℕ) (first mid new : Files) (low : from ≤ done) (some : done < stop)
     (is_n : n ≡ stop - done) (is_place : place ≡ at + (done - from)) where
   pub run_more : mid ≡ with_file file (put_some at (units_held table from (done - from)) (file_of file first)) first
-      → new ≡ with_file file (put place (units_held table done n) (file_of file mid)) mid
+      → new ≡ with_file file (with_units place (units_held table done n) (file_of file mid)) mid
       → new ≡ with_file file (put_some at (units_held table from (stop - from)) (file_of file first)) first
   run_more so_far next =
       let whole : (done - from) + n ≡ stop - from = omega arith in
       let from_here : done ≡ from + (done - from) = omega arith in
       next
-      ∙ ap (λ (f : Files). with_file file (put place piece (file_of file f)) f) so_far
-      ∙ with_file-with_file file (put place piece (file_of file (with_file file here first))) here first
-      ∙ ap (λ (us : Units). with_file file (put place piece us) first) (file_of-with file here first)
+      ∙ ap (λ (f : Files). with_file file (with_units place piece (file_of file f)) f) so_far
+      ∙ with_file-with_file file (with_units place piece (file_of file (with_file file here first))) here first
+      ∙ ap (λ (us : Units). with_file file (with_units place piece us) first) (file_of-with file here first)
       ∙ ap (λ (us : Units). with_file file us first)
       (put_some_append at place front piece (file_of file first) (omega (arith, length-units_held table done n))
       (omega (arith, length-units_held table from (done - from))))
@@ -94,7 +94,7 @@ run_none table file at from n files is itself = itself ∙ ap (λ (us : Units). 
 
 pub run_all : (table : Table) (file : File) (at from n : ℕ) (first new : Files) → 0 < n
     → new ≡ with_file file (put_some at (units_held table from n) (file_of file first)) first
-    → new ≡ with_file file (put at (units_held table from n) (file_of file first)) first
+    → new ≡ with_file file (with_units at (units_held table from n) (file_of file first)) first
 run_all table file at from n first new some is = is
     ∙ ap (λ (us : Units). with_file file us first)
     (put_some_is at (units_held table from n) (file_of file first) (omega (arith, length-units_held table from n)))

@@ -1,85 +1,88 @@
 -- One stage of a commit after another.
 use Rattle.std.proofs.Common.{◌≡◌, inl, inr, ⊎_elim, ℕ, ◌≤◌, List, refl, ap, subst, ◌∙◌, arith}
 use Rattle.rpm_outside.specs.declared.disk.Disk as disk
-use Rattle.rpm_group.proofs.Vocabulary.{BeforeOrAfter, blank_closed, ChangedIn, Closed, closed_blank, Entry, Files, is_blank, IsGroup, Layers, leaves_then}
-use Rattle.rpm_group.proofs.Vocabulary.{leaves_weaker, LeavesChanged, LeavesOnly, Log, log_state, Open, reopened, reopened_closed, reopened_open, ReopensAs}
-use Rattle.rpm_group.proofs.Vocabulary.{unlogged, WasChanged, WasWithin, with_entries, with_held}
+use Rattle.rpm_group.proofs.Vocabulary.{BeforeOrAfter, blank_closed, IsChangedInRange, Closed, closed_blank, Entry, Files, is_blank_unit, IsTransaction, Layers, leaves_then}
+use Rattle.rpm_group.proofs.Vocabulary.{leaves_weaker, CrashChanges, CrashLeavesOnly, Log, log_state, Open, reopened, reopened_closed, reopened_open, ReopensAs}
+use Rattle.rpm_group.proofs.Vocabulary.{without_log, WasChanged, WasWithin, with_entries, with_held}
 use Rattle.rpm_group.proofs.Closes.{written_leaves, closed_sound}
 
-pub still_closed : (old new : Files) (first end : ℕ) → 1 ≤ first → log_state old.log ≡ Closed → ChangedIn Log first end old new → log_state new.log ≡ Closed
-still_closed old new first end low closed changed = blank_closed new.log (ap is_blank (changed.each 0 (inl (omega (arith, low)))) ∙ closed_blank old.log closed)
+pub still_closed : (old new : Files) (first end : ℕ) → 1 ≤ first → log_state old.log ≡ Closed → IsChangedInRange Log first end old new
+    → log_state new.log ≡ Closed
+still_closed old new first end low closed changed =
+    blank_closed new.log (ap is_blank_unit (changed.each 0 (inl (omega (arith, low)))) ∙ closed_blank old.log closed)
 
 module _ {D : Type 0} (g : disk.Ghosts D) (before after : Files) where
   -- the entries after the commit record change nothing
-  pub logged_leaves : (end : ℕ) (old new : D) (files : Files) → unlogged files ≡ before → log_state files.log ≡ Closed
+  pub logged_leaves : (end : ℕ) (old new : D) (files : Files) → without_log files ≡ before → log_state files.log ≡ Closed
       → ((image : Files) → g.left_since old (g.moment old) image → image ≡ files)
-      → LeavesChanged g Log 1 end old new → LeavesOnly g old new (BeforeOrAfter before after)
-  logged_leaves end old new files is closed settled run =
+      → CrashChanges g Log 1 end old new → CrashLeavesOnly g old new (BeforeOrAfter before after)
+  logged_leaves end old new files is closed durable run =
       leaves_weaker g old new (WasChanged Log 1 end (g.left_since old (g.moment old))) (BeforeOrAfter before after)
       (λ image was.
-      let changed : ChangedIn Log 1 end files image = subst (λ (f : Files). ChangedIn Log 1 end f image) (settled was.0 was.1) was.2 in
+      let changed : IsChangedInRange Log 1 end files image = subst (λ (f : Files). IsChangedInRange Log 1 end f image) (durable was.0 was.1) was.2 in
       let shut : log_state image.log ≡ Closed = still_closed files image 1 end (omega arith) closed changed in
-      inl (record { same = reopened_closed image shut ∙ ap unlogged changed.others ∙ is; sound = closed_sound image.log shut }))
+      inl (record { same = reopened_closed image shut ∙ ap without_log changed.others ∙ is; sound = closed_sound image.log shut }))
       run
 
-  pub opened_leaves : (old new : D) (a b : Files) → a ≡ before → b ≡ after → LeavesOnly g old new (BeforeOrAfter a b)
-      → LeavesOnly g old new (BeforeOrAfter before after)
+  pub opened_leaves : (old new : D) (a b : Files) → a ≡ before → b ≡ after → CrashLeavesOnly g old new (BeforeOrAfter a b)
+      → CrashLeavesOnly g old new (BeforeOrAfter before after)
   opened_leaves old new a b is_a is_b run =
       leaves_weaker g old new (BeforeOrAfter a b) (BeforeOrAfter before after)
       (λ image either. ⊎_elim (λ one. inl (record { same = one.same ∙ is_a; sound = one.sound }))
       (λ two. inr (record { same = two.same ∙ is_b; sound = two.sound })) either) run
 
-  pub after_leaves : (old new : D) (files : Files) → files ≡ after → LeavesOnly g old new (ReopensAs files)
-      → LeavesOnly g old new (BeforeOrAfter before after)
+  pub after_leaves : (old new : D) (files : Files) → files ≡ after → CrashLeavesOnly g old new (ReopensAs files)
+      → CrashLeavesOnly g old new (BeforeOrAfter before after)
   after_leaves old new files is run =
       leaves_weaker g old new (ReopensAs files) (BeforeOrAfter before after)
       (λ image one. inr (record { same = one.same ∙ is; sound = one.sound })) run
 
--- what the files stand for in each stage
-module _ (held : Layers) (files first : Files) (same : unlogged first ≡ unlogged files) where
-  pub held_same : with_held held (unlogged first) ≡ unlogged (with_held held files)
+-- what the files represent in each stage
+module _ (held : Layers) (files first : Files) (same : without_log first ≡ without_log files) where
+  pub held_same : with_held held (without_log first) ≡ without_log (with_held held files)
   held_same = ap (λ (f : Files). with_held held f) same
 
-  pub entries_same : (entries : List Entry) → IsGroup entries held → with_entries entries (unlogged first) ≡ unlogged (with_held held files)
-  entries_same entries group = group.whole (unlogged first) ∙ held_same
+  pub entries_same : (entries : List Entry) → IsTransaction entries held → with_entries entries (without_log first) ≡ without_log (with_held held files)
+  entries_same entries transaction = transaction.whole (without_log first) ∙ held_same
 
-  pub reopened_same : (entries : List Entry) → IsGroup entries held → log_state first.log ≡ Open entries → reopened first ≡ unlogged (with_held held files)
-  reopened_same entries group is = reopened_open first entries is ∙ entries_same entries group
+  pub reopened_same : (entries : List Entry) → IsTransaction entries held → log_state first.log ≡ Open entries
+      → reopened first ≡ without_log (with_held held files)
+  reopened_same entries transaction is = reopened_open first entries is ∙ entries_same entries transaction
 
--- a file isn't in the group's log
-pub unlogged_changed : (files new : Files) (first end : ℕ) → ChangedIn Log first end files new → unlogged new ≡ unlogged files
-unlogged_changed files new first end changed = ap unlogged changed.others
+-- a file isn't in the transaction's log
+pub unlogged_changed : (files new : Files) (first end : ℕ) → IsChangedInRange Log first end files new → without_log new ≡ without_log files
+unlogged_changed files new first end changed = ap without_log changed.others
 
 module _ {D : Type 0} (g : disk.Ghosts D) (held : Layers) (files : Files) where
   abbrev BOA : Files → Type 0
-  BOA = BeforeOrAfter (unlogged files) (unlogged (with_held held files))
+  BOA = BeforeOrAfter (without_log files) (without_log (with_held held files))
 
   pub stage_one : (end : ℕ) (old new : D) → log_state files.log ≡ Closed → ((image : Files) → g.left_since old (g.moment old) image → image ≡ files)
-      → LeavesChanged g Log 1 end old new → LeavesOnly g old new BOA
-  stage_one end old new closed settled run = logged_leaves g (unlogged files) (unlogged (with_held held files)) end old new files refl closed
-      settled run
+      → CrashChanges g Log 1 end old new → CrashLeavesOnly g old new BOA
+  stage_one end old new closed durable run = logged_leaves g (without_log files) (without_log (with_held held files)) end old new files refl closed
+      durable run
 
-  pub stage_two : (old mid new : D) (first : Files) (entries : List Entry) → LeavesOnly g old mid BOA
-      → unlogged first ≡ unlogged files → IsGroup entries held
-      → LeavesOnly g mid new (BeforeOrAfter (unlogged first) (with_entries entries (unlogged first)))
-      → LeavesOnly g old new BOA
-  stage_two old mid new first entries so_far same group run =
+  pub stage_two : (old mid new : D) (first : Files) (entries : List Entry) → CrashLeavesOnly g old mid BOA
+      → without_log first ≡ without_log files → IsTransaction entries held
+      → CrashLeavesOnly g mid new (BeforeOrAfter (without_log first) (with_entries entries (without_log first)))
+      → CrashLeavesOnly g old new BOA
+  stage_two old mid new first entries so_far same transaction run =
       leaves_then g old mid new BOA so_far
-      (opened_leaves g (unlogged files) (unlogged (with_held held files)) mid new (unlogged first)
-      (with_entries entries (unlogged first)) same (entries_same held files first same entries group) run)
+      (opened_leaves g (without_log files) (without_log (with_held held files)) mid new (without_log first)
+      (with_entries entries (without_log first)) same (entries_same held files first same entries transaction) run)
 
-  pub stage_three : (old mid new : D) (second : Files) (entries : List Entry) → LeavesOnly g old mid BOA
-      → unlogged second ≡ unlogged files → IsGroup entries held → log_state second.log ≡ Open entries
+  pub stage_three : (old mid new : D) (second : Files) (entries : List Entry) → CrashLeavesOnly g old mid BOA
+      → without_log second ≡ without_log files → IsTransaction entries held → log_state second.log ≡ Open entries
       → ((image : Files) → g.left_since mid (g.moment mid) image → image ≡ second)
-      → LeavesOnly g mid new (WasWithin entries (g.left_since mid (g.moment mid))) → LeavesOnly g old new BOA
-  stage_three old mid new second entries so_far same group is settled run =
+      → CrashLeavesOnly g mid new (WasWithin entries (g.left_since mid (g.moment mid))) → CrashLeavesOnly g old new BOA
+  stage_three old mid new second entries so_far same transaction is durable run =
       leaves_then g old mid new BOA so_far
-      (after_leaves g (unlogged files) (unlogged (with_held held files)) mid new (reopened second)
-      (reopened_same held files second same entries group is) (written_leaves g mid new second entries is settled run))
+      (after_leaves g (without_log files) (without_log (with_held held files)) mid new (reopened second)
+      (reopened_same held files second same entries transaction is) (written_leaves g mid new second entries is durable run))
 
-  pub stage_four : (old mid new : D) (second third : Files) → LeavesOnly g old mid BOA → unlogged second ≡ unlogged files
-      → third ≡ with_held held second → LeavesOnly g mid new (ReopensAs (unlogged third)) → LeavesOnly g old new BOA
+  pub stage_four : (old mid new : D) (second third : Files) → CrashLeavesOnly g old mid BOA → without_log second ≡ without_log files
+      → third ≡ with_held held second → CrashLeavesOnly g mid new (ReopensAs (without_log third)) → CrashLeavesOnly g old new BOA
   stage_four old mid new second third so_far same written run =
       leaves_then g old mid new BOA so_far
-      (after_leaves g (unlogged files) (unlogged (with_held held files)) mid new (unlogged third) (ap unlogged written
+      (after_leaves g (without_log files) (without_log (with_held held files)) mid new (without_log third) (ap without_log written
       ∙ held_same held files second same) run)

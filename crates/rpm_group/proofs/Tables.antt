@@ -1,7 +1,7 @@
 -- What is held in a table of which one page was put, and units that are held page by page.
 use Rattle.std.proofs.Common.{◌≡◌, ◌⊎◌, inl, inr, ⊎_elim, ℕ, ◌+◌, ◌-◌, ◌*◌, ◌/◌, ◌%◌, ◌<◌, ◌≤◌, List, [], ◌∷◌, ◌++◌, length, take, drop, map, get_or, set, sym, ap, ◌∙◌, arith, get_or-set_same, get_or-set_other}
 use Rattle.std.specs.Prelude.{Option, Some, None, Box, true, is_some}
-use Rattle.rpm_group.proofs.Vocabulary.{Global, held_at, Holds, in_page, in_paged, KeepsPages, Leaf, LeafKeeps, LeafSame, LeafWrote, Page, page_at, page_in}
+use Rattle.rpm_group.proofs.Vocabulary.{Global, held_at, HoldsUnits, in_page, in_paged, KeepsPages, Leaf, LeafKeeps, LeafSame, LeafWrote, Page, page_at, page_in}
 use Rattle.rpm_group.proofs.Vocabulary.{SameHeld, SamePages, Table, unit_in}
 use Rattle.std.proofs.lemmas.List.{length-take, length-drop, length-map, map-append, map-set, get_or-map, get_or_append_left, get_or_past, length_push, get_or_push, get_or-take, get_or-drop, same_lists}
 use Rattle.std.proofs.lemmas.Bool.{cases_lt, cases_eq, cases_order}
@@ -107,7 +107,7 @@ module _ (table : Table) (g : ℕ) (old new : Leaf) (below : g < length table) (
     ])
 
   pub wrote_set : (q at : ℕ) (bytes : List ℕ) → q / 256 ≡ g → at + length bytes / 16 ≤ 256 → LeafWrote (q % 256) at bytes old new
-      → Holds (256 * q + at) bytes table (set table g new)
+      → HoldsUnits (256 * q + at) bytes table (set table g new)
   wrote_set q at bytes here within wrote = record { inside = inside; outside = outside }
     where
       inside : (k : ℕ) → k < length bytes / 16 → held_at (set table g new) (256 * q + at + k) ≡ Some (unit_in bytes k)
@@ -156,7 +156,7 @@ unit_in_part bytes from n size k is below = same_lists (unit_in (take size (drop
     ∙ sym (get_or-take 16 (drop (16 * (from + k)) bytes) b d short))
 
 module _ (unit done n : ℕ) (bytes part : List ℕ) (first now next : Table) (long : length part / 16 ≡ n) (same : (k : ℕ) → k < n
-    → unit_in part k ≡ unit_in bytes (done + k)) (place : ℕ) (is_place : place ≡ unit + done) (holds : Holds place part now next) where
+    → unit_in part k ≡ unit_in bytes (done + k)) (place : ℕ) (is_place : place ≡ unit + done) (holds : HoldsUnits place part now next) where
   pub inside_more : ((k : ℕ) → k < done → held_at now (unit + k) ≡ Some (unit_in bytes k)) → (k : ℕ) → k < done + n
       → held_at next (unit + k) ≡ Some (unit_in bytes k)
   inside_more so_far k below = elim (cases_lt k done) [

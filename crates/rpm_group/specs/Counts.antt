@@ -22,7 +22,7 @@ abbrev pub log_units : Table → ℕ → ℕ
 log_units table end = count_below (begins_run table) end + count_below (is_held table) end
 
 -- the first place from one on where it is so or isn't, or the end
-pub record IsNext (is : ℕ → Bool) (so : Bool) (first last next : ℕ) : Type 0 where
+pub record IsNextPlace (is : ℕ → Bool) (so : Bool) (first last next : ℕ) : Type 0 where
   pub from : first ≤ next
   pub end : next ≤ last
   pub between : (k : ℕ) → first ≤ k → k < next → is k ≡ not so

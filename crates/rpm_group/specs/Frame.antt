@@ -1,9 +1,10 @@
--- What stands around a call that takes a disk, by the ghost members of its kind: beside the words of `rpm_outside`, those of a group.
+-- What stands around a call that takes a disk, by the ghost members of its kind: beside the words of `rpm_outside`,
+-- those of a transaction.
 use Rattle.std.specs.Prelude.{Result}
 use Rattle.rpm_outside.specs.declared.disk.Disk as disk
 use Rattle.rpm_outside.specs.Frame as frame
-use Rattle.rpm_group.specs.Groups as groups
-use Rattle.rpm_group.specs.LogReads as reads
+use Rattle.rpm_group.specs.Transactions as groups
+use Rattle.rpm_group.specs.laws.LogReads as reads
 
 module _ {D : Type 0} (d : disk.Ghosts D) where
   -- a call read nothing of the other files than the log

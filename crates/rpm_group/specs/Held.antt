@@ -1,5 +1,6 @@
 -- What is held of a file.
-use Rattle.std.specs.Prelude.{◌≡◌, ℕ, ◌*◌, ◌/◌, ◌%◌, ◌≤◌, List, [], Vec, take, drop, length, Option, Some, None, slice_index_or, if◌then◌else◌, false, Box, unwrap_or, map, max}
+use Rattle.std.specs.Prelude.{◌≡◌, ℕ, ◌*◌, ◌/◌, ◌%◌, ◌≤◌, List, [], Vec, take, drop, length, Option, Some, None}
+use Rattle.std.specs.Prelude.{slice_index_or, if◌then◌else◌, false, Box, unwrap_or, map, max}
 use Rattle.std.specs.List.{range_with_len}
 use Rattle.rpm_outside.specs.Files.{Units, unit_at}
 use Rattle.std.specs.declared.alloc.Global.{Global}
@@ -43,9 +44,9 @@ abbrev pub unit_over : Table → Units → ℕ → List ℕ
 unit_over table file i = unwrap_or (held_at table i) (unit_at file i)
 
 -- a file under what is held of it, as far as this end
-unfoldable pub laid : Table → ℕ → Units → Units
-laid table end file = map (unit_over table file) (range_with_len 0 (max (length file) end))
+unfoldable pub laid_units : Table → ℕ → Units → Units
+laid_units table end file = map (unit_over table file) (range_with_len 0 (max (length file) end))
 
 -- past the end nothing is held
-abbrev pub EndsAt : Table → ℕ → Type 0
-EndsAt table end = (i : ℕ) → end ≤ i → held_at table i ≡ None
+abbrev pub IsHeldBelow : Table → ℕ → Type 0
+IsHeldBelow table end = (i : ℕ) → end ≤ i → held_at table i ≡ None

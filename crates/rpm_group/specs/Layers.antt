@@ -5,7 +5,7 @@ use Rattle.rpm_outside.specs.declared.disk.File.TheVariants.{Pkg, Idx, Log}
 use Rattle.rpm_outside.specs.Files.{Units, Files, file_of}
 use Rattle.rpm_group.specs.declared.layers.Layers.{Layers}
 use Rattle.rpm_group.specs.declared.pages.Pages.{Pages}
-use Rattle.rpm_group.specs.Held.{laid}
+use Rattle.rpm_group.specs.Held.{laid_units}
 
 -- the pages over one of the three files
 abbrev pub pages_of : File → Layers → Pages
@@ -15,13 +15,19 @@ pages_of Log layers = layers.log
 
 -- a file under its pages
 abbrev pub laid_file : Pages → Units → Units
-laid_file pages file = laid pages.table.items pages.end file
+laid_file pages file = laid_units pages.table.items pages.end file
 
 -- the three files under their pages
 abbrev pub laid_files : Layers → Files → Files
-laid_files layers files = record { pkg = laid_file layers.pkg files.pkg; idx = laid_file layers.idx files.idx; log = laid_file layers.log files.log }
+laid_files layers files =
+    record {
+      pkg = laid_file layers.pkg files.pkg;
+      idx = laid_file layers.idx files.idx;
+      log = laid_file layers.log files.log;
+    }
 
-pub file_of-laid : (file : File) (layers : Layers) (files : Files) → file_of file (laid_files layers files) ≡ laid_file (pages_of file layers)
+pub file_of-laid : (file : File) (layers : Layers) (files : Files)
+    → file_of file (laid_files layers files) ≡ laid_file (pages_of file layers)
     (file_of file files)
 file_of-laid Pkg layers files = refl
 file_of-laid Idx layers files = refl

@@ -11,10 +11,10 @@ IsSound (Malformed unit) = ⊥
 IsSound (Open entries) = Unit {0}
 
 -- a fault of the disk or of memory
-abbrev pub IsOutside : LoadFault → Type 0
-IsOutside (BadLog unit) = ⊥
-IsOutside DiskFault = Unit {0}
-IsOutside NoMemory = Unit {0}
+abbrev pub IsOutsideLog : LoadFault → Type 0
+IsOutsideLog (BadLog unit) = ⊥
+IsOutsideLog DiskFault = Unit {0}
+IsOutsideLog NoMemory = Unit {0}
 
 -- a log that is wrong is told with its unit, and one that is loaded isn't wrong
 abbrev pub LoadSays : LogState → Result (Unit {0}) LoadFault → Type 0

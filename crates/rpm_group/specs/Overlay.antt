@@ -4,7 +4,7 @@ use Rattle.rpm_outside.specs.Calls.{Call, Len, Read, Write, Sync}
 use Rattle.rpm_outside.specs.Causes.{Rose}
 use Rattle.rpm_outside.specs.declared.disk.Disk as disk
 use Rattle.rpm_outside.specs.declared.disk.File.{File}
-use Rattle.rpm_outside.specs.Files.{Files, file_of, with_file, units_of, put}
+use Rattle.rpm_outside.specs.Files.{Files, file_of, with_file, units_of, with_units}
 use Rattle.rpm_group.specs.declared.layers.Layers.{Layers}
 use Rattle.rpm_group.specs.declared.overlay.Overlay.{Overlay}
 use Rattle.rpm_group.specs.Layers.{laid_files}
@@ -41,14 +41,18 @@ HoldsSame old new = (files : Files) → laid_files new.held files ≡ laid_files
 -- each file reads under what is held with the units of a write in it
 abbrev pub HoldsWrite : {D : Type 0} → File → ℕ → List ℕ → Overlay D → Overlay D → Type 0
 HoldsWrite file unit bytes old new =
-    (files : Files) → laid_files new.held files ≡ with_file file (put unit (units_of bytes) (file_of file (laid_files old.held files)))
+    (files : Files) → laid_files new.held files ≡ with_file file
+    (with_units unit (units_of bytes) (file_of file (laid_files old.held files)))
     (laid_files old.held files)
 
--- a write that fails counts as starved and leaves the units as they were, a sync never fails, and both leave the disk below
+-- a write that fails counts as starved and leaves the units as they were, a sync never fails, and both leave the disk
+-- below
 abbrev pub StarvesOrHolds : {D : Type 0} → Overlay D → Call → Bool → Overlay D → Type 0
-StarvesOrHolds old (Write file unit bytes) true new = Rose old.starved new.starved × HoldsSame old new × (new.below ≡ old.below)
+StarvesOrHolds old (Write file unit bytes) true new = Rose old.starved new.starved × HoldsSame old new
+    × (new.below ≡ old.below)
 StarvesOrHolds old (Write file unit bytes) false new =
     (new.starved ≡ old.starved) × HoldsWrite file unit bytes old new × (new.below ≡ old.below)
 StarvesOrHolds old (Len file) failed new = (new.starved ≡ old.starved) × HoldsSame old new
 StarvesOrHolds old (Read file unit count) failed new = (new.starved ≡ old.starved) × HoldsSame old new
-StarvesOrHolds old (Sync file) failed new = (failed ≡ false) × (new.starved ≡ old.starved) × HoldsSame old new × (new.below ≡ old.below)
+StarvesOrHolds old (Sync file) failed new = (failed ≡ false) × (new.starved ≡ old.starved) × HoldsSame old new
+    × (new.below ≡ old.below)

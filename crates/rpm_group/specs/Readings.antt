@@ -8,6 +8,6 @@ entries_of Closed = []
 entries_of (Malformed unit) = []
 entries_of (Open entries) = entries
 
--- a log holds a whole group
+-- a log holds a whole transaction
 abbrev pub IsOpen : LogState → Type 0
 IsOpen state = state ≡ Open (entries_of state)

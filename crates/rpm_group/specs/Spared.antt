@@ -14,6 +14,8 @@ spared_of spared Idx = spared.idx
 spared_of spared Log = spared.log
 
 -- a read of so many bytes of a file was counted once: as spared as far as the disk below didn't count it
-pub record CountsRead {D : Type 0} (d : disk.Ghosts D) (file : File) (bytes : ℕ) (old new : D) (so sn : Spared) : Type 0 where
-  pub rose : (f : File) → RoseBy (d.bytes_read old f + spared_of so f) (bytes_for file f bytes) (d.bytes_read new f + spared_of sn f)
+pub record CountsRead {D : Type 0} (d : disk.Ghosts D) (file : File) (bytes : ℕ) (old new : D)
+    (so sn : Spared) : Type 0 where
+  pub rose : (f : File) → RoseBy (d.bytes_read old f + spared_of so f) (bytes_for file f bytes)
+      (d.bytes_read new f + spared_of sn f)
   pub later : (f : File) → spared_of so f ≤ spared_of sn f

@@ -5,5 +5,4 @@ pub mod HeldUnits
 pub mod Leavings
 pub mod Logged
 pub mod Over
-pub mod Grouped
-pub mod KeptLogs
+pub mod Entries

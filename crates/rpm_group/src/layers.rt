@@ -1,7 +1,7 @@
 //! What is held of the three files.
 
 ghost use Rattle.std.specs.Prelude.{◌≡◌, ℕ, ◌+◌, ◌/◌, ◌%◌, ◌<◌, ◌≤◌, ◌^◌, length, OnOk, OnErr};
-ghost use Rattle.rpm_group.specs.Prelude.{file_of, Files, FitsAt, laid_files, pages_of, put, units_of, with_file};
+ghost use Rattle.rpm_group.specs.Prelude.{file_of, Files, FitsAt, laid_files, pages_of, with_units, units_of, with_file};
 
 use crate::pages::Pages;
 use rpm_outside::File;
@@ -52,7 +52,7 @@ impl Layers {
     ) -> Result<(), AllocError>
         requires { FitsAt unit bytes.now }
         ensures ok { OnOk result ((files : Files) → laid_files self.new files
-            ≡ with_file file (put unit (units_of bytes.now) (file_of file (laid_files self.old files)))
+            ≡ with_file file (with_units unit (units_of bytes.now) (file_of file (laid_files self.old files)))
             (laid_files self.old files)) }
         ensures err { OnErr result ((files : Files) → laid_files self.new files ≡ laid_files self.old files) }
     {

@@ -7,7 +7,6 @@
 #![tactic(auto)]
 
 mod commit;
-mod group;
 mod layers;
 mod leaf;
 mod load;
@@ -20,6 +19,7 @@ mod recovery;
 mod scan;
 mod spared;
 mod table;
+mod transaction;
 mod writes;
 
 pub use commit::CommitFault;

@@ -1,10 +1,10 @@
 //! An overlay that holds the change of an open log.
 
 ghost use Rattle.std.specs.Prelude.{◌≡◌, ℕ, ◌+◌, ◌*◌, ◌/◌, ◌%◌, ◌<◌, ◌≤◌, ◌^◌, IsTrue, length, take, drop, Err, None, OnOk, IfOk, IfErr};
-ghost use Rattle.rpm_group.specs.Prelude.{disk_after, DiskFault, entries_of, file_of, Files, FitsAt, HasCauseAt, heads_behind, IsDiskFault, IsLoaded, IsOpen, IsOutside, laid_files, LoadedSays, LoadSays, Log, log_state, LooksAt, overlay_below, overlay_held, put, ReadsAtOr, reopened, unit_at, with_entries, with_file};
+ghost use Rattle.rpm_group.specs.Prelude.{disk_after, DiskFault, entries_of, file_of, Files, FitsAt, HasCauseAt, heads_behind, IsDiskFault, IsLoaded, IsOpen, IsOutsideLog, laid_files, LoadedSays, LoadSays, Log, log_state, OnlyReadsFile, overlay_below, overlay_held, with_units, ReadsAtOr, reopened, unit_at, with_entries, with_file};
 
 use crate::layers::{Layers, no_layers};
-use crate::log::{Gate, Reading, read_head, read_log};
+use crate::log::{CommitRecord, Reading, read_head, read_log};
 use crate::overlay::Overlay;
 use rpm_outside::{Disk, File};
 use std::alloc::Global;
@@ -34,9 +34,9 @@ fn hold_piece<D: Disk>(
     requires within { IsTrue D.tells → from + length bytes.old / 16 ≤ length (D.files disk.old).log }
     ensures held { OnOk result (IsTrue D.tells → (files : Files)
         → laid_files held.new files ≡ with_file file
-        (put at (take (length bytes.old / 16) (drop from (D.files disk.old).log))
+        (with_units at (take (length bytes.old / 16) (drop from (D.files disk.old).log))
         (file_of file (laid_files held.old files))) (laid_files held.old files)) }
-    ensures fault { IfErr result IsOutside }
+    ensures fault { IfErr result IsOutsideLog }
     ensures reads { ReadsAtOr D.Disk Log (result ≡ Err LoadFault.DiskFault) disk.old disk.new }
 {
     disk.read_at(File::Log, from, bytes)
@@ -61,9 +61,9 @@ fn hold_units<D: Disk>(
     requires place { from ≤ 2 ^ 32 }
     ensures held { OnOk result (IsTrue D.tells → (files : Files)
         → laid_files held.new files ≡ with_file file
-        (put at (take count (drop from (D.files disk.old).log)) (file_of file (laid_files held.old files)))
+        (with_units at (take count (drop from (D.files disk.old).log)) (file_of file (laid_files held.old files)))
         (laid_files held.old files)) }
-    ensures fault { IfErr result IsOutside }
+    ensures fault { IfErr result IsOutsideLog }
     ensures reads { ReadsAtOr D.Disk Log (result ≡ Err LoadFault.DiskFault) disk.old disk.new }
 {
     let mut page = [0u8; 4096];
@@ -83,19 +83,19 @@ fn hold_entries<D: Disk>(
     alloc: Global,
     disk: &mut D,
     held: &mut Layers,
-    gate: Gate,
+    commit_record: CommitRecord,
 ) -> Result<(), LoadFault>
-    requires last { IsTrue D.tells → gate.last < length (D.files disk.old).log }
-    requires open { IsTrue D.tells → IsOpen (heads_behind gate (D.files disk.old).log) }
+    requires last { IsTrue D.tells → commit_record.last < length (D.files disk.old).log }
+    requires open { IsTrue D.tells → IsOpen (heads_behind commit_record (D.files disk.old).log) }
     ensures held { OnOk result (IsTrue D.tells → (files : Files)
-        → laid_files held.new files ≡ with_entries (entries_of (heads_behind gate (D.files disk.old).log))
+        → laid_files held.new files ≡ with_entries (entries_of (heads_behind commit_record (D.files disk.old).log))
         (laid_files held.old files)) }
-    ensures fault { IfErr result (λ fault. IsTrue D.tells → IsOutside fault) }
+    ensures fault { IfErr result (λ fault. IsTrue D.tells → IsOutsideLog fault) }
     ensures reads { ReadsAtOr D.Disk Log (result ≡ Err LoadFault.DiskFault) disk.old disk.new }
 {
     let mut p = 1u64;
-    for _k in 0..gate.entries {
-        let Ok(found) = read_head(disk, gate.last, p) else {
+    for _k in 0..commit_record.entries {
+        let Ok(found) = read_head(disk, commit_record.last, p) else {
             return Err(LoadFault::DiskFault);
         };
         let Some(head) = found else {
@@ -124,7 +124,7 @@ pub fn hold_log<D: Disk>(alloc: Global, disk: &mut D, held: &mut Layers) -> Resu
     match reading {
         Reading::Shut => Ok(()),
         Reading::Bad(unit) => Err(LoadFault::BadLog { unit }),
-        Reading::Opened(gate) => hold_entries(alloc, disk, held, gate),
+        Reading::Opened(commit_record) => hold_entries(alloc, disk, held, commit_record),
     }
 }
 
@@ -153,7 +153,7 @@ impl<D: Disk> Overlay<D> {
             → laid_files (overlay_held overlay) files
             ≡ with_entries (entries_of (log_state (D.files disk).log)) files) }
         ensures says { IsTrue D.tells → LoadedSays (log_state (D.files disk).log) result }
-        ensures looks { LooksAt D.Disk Log disk (disk_after result) }
+        ensures looks { OnlyReadsFile D.Disk Log disk (disk_after result) }
         ensures cause { HasCauseAt (IsDiskFault result) (D.faults disk) (D.faults (disk_after result)) }
     {
         let mut disk = disk;

@@ -1,13 +1,13 @@
 //! The commit record and the heads of the log.
 
 ghost use Rattle.std.specs.Prelude.{◌≡◌, ◌==◌, if◌then◌else◌, ℕ, ◌+◌, ◌*◌, ◌/◌, ◌<◌, ◌≤◌, ◌^◌, IsTrue, length, IfOk, IfSome};
-ghost use Rattle.rpm_group.specs.Prelude.{Files, GateSays, heads_behind, HeadSays, HeadsSay, is_blank, is_gate, is_head, IsHead, Log, LogSays, ReadsAt, unit_at, word};
+ghost use Rattle.rpm_group.specs.Prelude.{Files, CommitRecordSays, heads_behind, HeadSays, HeadsSay, is_blank_unit, is_commit_record, is_log_head, IsHead, Log, LogSays, ReadsAt, unit_at, word};
 
 use rpm_outside::{Disk, Failed, File, word};
 
 /// The commit record of a log: how many entries there are, and the last unit of the last.
 #[derive(Clone, Copy, PartialEq, Eq)]
-pub struct Gate {
+pub struct CommitRecord {
     pub entries: u32,
     pub last: u32,
 }
@@ -25,7 +25,7 @@ pub struct Head {
 pub enum Reading {
     Shut,
     Bad(u64),
-    Opened(Gate),
+    Opened(CommitRecord),
 }
 
 // `RpmL`
@@ -44,28 +44,28 @@ pub fn read_unit<D: Disk>(disk: &mut D, at: u64) -> Result<[u8; 16], Failed>
 
 /// Whether all bytes are zero.
 fn is_blank(unit: &[u8]) -> bool
-    ensures { result ≡ is_blank unit.now }
+    ensures { result ≡ is_blank_unit unit.now }
 {
     unit.iter().all(|b| *b == 0)
 }
 
 /// Whether a unit is the commit record of a log of so many units.
-#[tactic(auto, unfolding(rpm_outside::specs::Logs::is_gate))]
-fn is_gate(units: u64, gate: &[u8]) -> bool
-    requires { length gate.now ≡ 16 }
-    ensures { result ≡ is_gate units gate.now }
+#[tactic(auto, unfolding(rpm_outside::specs::Logs::is_commit_record))]
+fn is_commit_record(units: u64, commit_record: &[u8]) -> bool
+    requires { length commit_record.now ≡ 16 }
+    ensures { result ≡ is_commit_record units commit_record.now }
 {
-    word(gate, 0) == MAGIC
-        && word(gate, 1) == 1
-        && 0 < word(gate, 2)
-        && (word(gate, 3) as u64) < units
+    word(commit_record, 0) == MAGIC
+        && word(commit_record, 1) == 1
+        && 0 < word(commit_record, 2)
+        && (word(commit_record, 3) as u64) < units
 }
 
 /// Whether a unit is a head at unit p of a log with this last unit.
-#[tactic(auto, unfolding(rpm_outside::specs::Logs::is_head))]
+#[tactic(auto, unfolding(rpm_outside::specs::Logs::is_log_head))]
 fn is_head(last: u32, p: u64, head: &[u8]) -> bool
     requires { length head.now ≡ 16 }
-    ensures { result ≡ is_head last p head.now }
+    ensures { result ≡ is_log_head last p head.now }
 {
     let file = word(head, 0);
     let end = word(head, 1) as u64 + word(head, 2) as u64;
@@ -82,24 +82,24 @@ fn is_head(last: u32, p: u64, head: &[u8]) -> bool
 /// # Errors
 ///
 /// `Failed` only where the count of faults rose.
-pub fn read_gate<D: Disk>(disk: &mut D) -> Result<Reading, Failed>
-    ensures says { IfOk result (λ reading. IsTrue D.tells → GateSays reading (D.files disk.old).log) }
+pub fn read_commit_record<D: Disk>(disk: &mut D) -> Result<Reading, Failed>
+    ensures says { IfOk result (λ reading. IsTrue D.tells → CommitRecordSays reading (D.files disk.old).log) }
     ensures reads { ReadsAt D.Disk Log result disk.old disk.new }
 {
     let units = disk.len(File::Log)?;
     if units == 0 {
         return Ok(Reading::Shut);
     }
-    let gate = read_unit(disk, 0)?;
-    if is_blank(&gate) {
+    let commit_record = read_unit(disk, 0)?;
+    if is_blank(&commit_record) {
         return Ok(Reading::Shut);
     }
-    if !is_gate(units, &gate) {
+    if !is_commit_record(units, &commit_record) {
         return Ok(Reading::Bad(0));
     }
-    Ok(Reading::Opened(Gate {
-        entries: word(&gate, 2),
-        last: word(&gate, 3),
+    Ok(Reading::Opened(CommitRecord {
+        entries: word(&commit_record, 2),
+        last: word(&commit_record, 3),
     }))
 }
 
@@ -147,19 +147,22 @@ fn head_of(unit: &[u8]) -> Head
 /// # Errors
 ///
 /// `Failed` only where the count of faults rose.
-pub fn check_heads<D: Disk>(disk: &mut D, gate: Gate) -> Result<Option<u64>, Failed>
-    requires { IsTrue D.tells → gate.last < length (D.files disk.old).log }
-    ensures says { IfOk result (λ fault. IsTrue D.tells → HeadsSay (heads_behind gate (D.files disk.old).log) fault) }
+pub fn check_heads<D: Disk>(
+    disk: &mut D,
+    commit_record: CommitRecord,
+) -> Result<Option<u64>, Failed>
+    requires { IsTrue D.tells → commit_record.last < length (D.files disk.old).log }
+    ensures says { IfOk result (λ fault. IsTrue D.tells → HeadsSay (heads_behind commit_record (D.files disk.old).log) fault) }
     ensures reads { ReadsAt D.Disk Log result disk.old disk.new }
 {
     let mut p = 1u64;
-    for _k in 0..gate.entries {
-        let Some(head) = read_head(disk, gate.last, p)? else {
+    for _k in 0..commit_record.entries {
+        let Some(head) = read_head(disk, commit_record.last, p)? else {
             return Ok(Some(p));
         };
         p += 1 + head.count as u64;
     }
-    if p != gate.last as u64 + 1 {
+    if p != commit_record.last as u64 + 1 {
         return Ok(Some(p));
     }
     Ok(None)
@@ -174,10 +177,10 @@ pub fn read_log<D: Disk>(disk: &mut D) -> Result<Reading, Failed>
     ensures says { IfOk result (λ reading. IsTrue D.tells → LogSays reading (D.files disk.old).log) }
     ensures reads { ReadsAt D.Disk Log result disk.old disk.new }
 {
-    match read_gate(disk)? {
-        Reading::Opened(gate) => match check_heads(disk, gate)? {
+    match read_commit_record(disk)? {
+        Reading::Opened(commit_record) => match check_heads(disk, commit_record)? {
             Some(unit) => Ok(Reading::Bad(unit)),
-            None => Ok(Reading::Opened(gate)),
+            None => Ok(Reading::Opened(commit_record)),
         },
         Reading::Bad(unit) => Ok(Reading::Bad(unit)),
         Reading::Shut => Ok(Reading::Shut),

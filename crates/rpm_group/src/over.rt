@@ -1,7 +1,7 @@
 //! Reading what is held over what a disk has.
 
 ghost use Rattle.std.specs.Prelude.{◌≡◌, ℕ, ◌+◌, ◌-◌, ◌*◌, ◌/◌, ◌%◌, ◌<◌, ◌≤◌, ◌^◌, IsTrue, length, take, drop, OnOk, IfOk, false};
-ghost use Rattle.rpm_group.specs.Prelude.{bytes_for, CountsRead, file_of, Files, is_held, laid_files, Reads, ReadsOver, RoseBy, unit_at, unit_in, Units, units_of, Untouched};
+ghost use Rattle.rpm_group.specs.Prelude.{bytes_for, CountsRead, file_of, Files, is_held, laid_files, ReadsOnly, ReadsOver, RoseBy, unit_at, unit_in, Units, units_of, IsUntouched};
 
 use crate::layers::Layers;
 use crate::pages::Pages;
@@ -15,7 +15,7 @@ fn read_some<D: Disk>(below: &mut D, file: File, unit: u64, into: &mut [u8]) -> 
     requires within { IsTrue D.tells → 0 < length into.old → unit + length into.old / 16 ≤ length (file_of file (D.files below.old)) }
     ensures units { OnOk result (IsTrue D.tells → units_of into.new ≡ take (length into.old / 16) (drop unit (file_of file (D.files below.old)))) }
     ensures counts { (f : File) → RoseBy (D.bytes_read below.old f) (bytes_for file f (length into.old)) (D.bytes_read below.new f) }
-    ensures reads { Reads D.Disk file (length into.old) result below.old below.new }
+    ensures reads { ReadsOnly D.Disk file (length into.old) result below.old below.new }
 {
     if into.is_empty() {
         return Ok(());
@@ -39,7 +39,7 @@ fn read_below<D: Disk>(
     ensures units { OnOk result (IsTrue D.tells → (k : ℕ) → k < length into.old / 16
         → unit_in into.new k ≡ unit_at (file_of file (D.files below.old)) (unit + k)) }
     ensures counts { CountsRead D.Disk file (length into.old) below.old below.new spared.old spared.new }
-    ensures reads { Reads D.Disk file (length into.old) result below.old below.new }
+    ensures reads { ReadsOnly D.Disk file (length into.old) result below.old below.new }
 {
     let there = end.saturating_sub(unit).min(into.len() as u64 / 16) as usize;
     spared.add(file, into.len() - 16 * there);
@@ -61,7 +61,7 @@ fn read_partly<D: Disk>(
     ensures units { OnOk result (IsTrue D.tells → units_of into.new
         ≡ take (length into.old / 16) (drop unit (file_of file (laid_files layers.now (D.files below.old))))) }
     ensures counts { CountsRead D.Disk file (length into.old) below.old below.new spared.old spared.new }
-    ensures reads { Reads D.Disk file (length into.old) result below.old below.new }
+    ensures reads { ReadsOnly D.Disk file (length into.old) result below.old below.new }
 {
     let pages = layers.file(file);
     // A file of which nothing is held reads as below, and its length need not be asked for.

@@ -1,9 +1,9 @@
 //! What is held of a file.
 
 ghost use Rattle.std.specs.Prelude.{◌≡◌, ◌≢◌, ◌⊎◌, ℕ, ◌+◌, ◌-◌, ◌/◌, ◌%◌, ◌<◌, ◌≤◌, ◌^◌, None, length, OnOk, OnErr, IsTrue};
-ghost use Rattle.rpm_outside.specs.Files.{FitsAt, Units, units_of, put};
-ghost use Rattle.rpm_group.specs.Held.{held_at, EndsAt, laid};
-ghost use Rattle.rpm_group.specs.inner.Holding.{Holds, SameHeld, LaysOver};
+ghost use Rattle.rpm_outside.specs.Files.{FitsAt, Units, units_of, with_units};
+ghost use Rattle.rpm_group.specs.Held.{held_at, IsHeldBelow, laid_units};
+ghost use Rattle.rpm_group.specs.inner.Holding.{HoldsUnits, SameHeld, LaysOver};
 ghost use Rattle.rpm_group.specs.inner.HeldUnits.{AreHeld};
 
 use crate::scan::next_absent;
@@ -16,14 +16,14 @@ pub struct Pages {
     pub table: Table,
     pub end: u64,
     ghost small: { end ≤ 2 ^ 28 },
-    ghost past: { EndsAt table.items end },
+    ghost past: { IsHeldBelow table.items end },
     ghost last: { 0 < end → held_at table.items (end - 1) ≢ None },
 }
 
 impl Pages {
     /// Nothing is held.
     pub fn new(alloc: Global) -> Pages
-        ensures { (file : Units) → laid result.table.items result.end file ≡ file }
+        ensures { (file : Units) → laid_units result.table.items result.end file ≡ file }
     {
         Pages {
             table: Vec::new(alloc),
@@ -38,9 +38,9 @@ impl Pages {
     /// `AllocError` where memory is wanting. What is held is then as it was.
     pub fn hold(&mut self, alloc: Global, unit: u64, bytes: &[u8]) -> Result<(), AllocError>
         requires { FitsAt unit bytes.now }
-        ensures ok { OnOk result ((file : Units) → laid self.new.table.items self.new.end file
-            ≡ put unit (units_of bytes.now) (laid self.old.table.items self.old.end file)) }
-        ensures err { OnErr result ((file : Units) → laid self.new.table.items self.new.end file ≡ laid self.old.table.items self.old.end file) }
+        ensures ok { OnOk result ((file : Units) → laid_units self.new.table.items self.new.end file
+            ≡ with_units unit (units_of bytes.now) (laid_units self.old.table.items self.old.end file)) }
+        ensures err { OnErr result ((file : Units) → laid_units self.new.table.items self.new.end file ≡ laid_units self.old.table.items self.old.end file) }
     {
         let end = unit + bytes.len() as u64 / 16;
         hold_all(alloc, &mut self.table, unit as usize, bytes)?;
@@ -77,7 +77,7 @@ impl Pages {
 fn hold_all(alloc: Global, table: &mut Table, unit: usize, bytes: &[u8]) -> Result<(), AllocError>
     requires whole { length bytes.now % 16 ≡ 0 }
     requires room { unit + length bytes.now / 16 ≤ 2 ^ 28 }
-    ensures ok { OnOk result (Holds unit bytes.now table.old.items table.new.items) }
+    ensures ok { OnOk result (HoldsUnits unit bytes.now table.old.items table.new.items) }
     ensures err { OnErr result (SameHeld table.old.items table.new.items) }
 {
     let end = unit + bytes.len() / 16;

@@ -1,9 +1,9 @@
 //! What a crash left of a change is finished.
 
 ghost use Rattle.std.specs.Prelude.{◌≡◌, ◌↔◌, ℕ, ◌+◌, ◌*◌, ◌/◌, ◌%◌, ◌<◌, ◌≤◌, ◌^◌, IsTrue, length, take, drop, Ok, Err, None, true, OnOk, IfOk, IfErr};
-ghost use Rattle.rpm_group.specs.Prelude.{AreSettled, Closed, DiskFault, entries_of, file_of, Files, FitsAt, heads_behind, images, IsHead, IsOpen, IsSettled, KeepsBehind, LeavesChanged, LeavesIn, Log, log_state, OnlyReadsLog, OnlyReadsLogOr, put, ReadsLog, RecoverKeeps, RecoverSays, reopened, ReopensAs, ReopensAsOneOf, unit_at, unlogged, WasWithin, with_entries, with_file, Within};
+ghost use Rattle.rpm_group.specs.Prelude.{AreDurable, Closed, DiskFault, entries_of, file_of, Files, FitsAt, heads_behind, images, IsHead, IsOpen, IsDurable, KeepsBehind, CrashChanges, CrashLeaves, Log, log_state, OnlyReadsLog, OnlyReadsLogOr, with_units, ReadsLog, RecoverKeeps, RecoverSays, reopened, ReopensAs, ReopensAsOneOf, unit_at, without_log, WasWithin, with_entries, with_file, Within};
 
-use crate::log::{Gate, Reading, read_head, read_log};
+use crate::log::{CommitRecord, Reading, read_head, read_log};
 use rpm_outside::{Disk, Failed, File};
 
 /// Why a database can't be recovered.
@@ -15,23 +15,23 @@ pub enum RecoverFault {
     DiskFault,
 }
 
-/// Settles all three files.
-pub fn settle<D: Disk>(disk: &mut D) -> Result<(), Failed>
+/// Makes all three files durable.
+pub fn sync_all<D: Disk>(disk: &mut D) -> Result<(), Failed>
     ensures same { IsTrue D.tells → D.files disk.new ≡ D.files disk.old }
-    ensures settled { OnOk result (IsTrue D.tells → AreSettled (D.files disk.new) (images D.Disk disk.new)) }
-    ensures images { IsTrue D.tells → LeavesIn D.Disk disk.old disk.new (images D.Disk disk.old) }
+    ensures durable { OnOk result (IsTrue D.tells → AreDurable (D.files disk.new) (images D.Disk disk.new)) }
+    ensures images { IsTrue D.tells → CrashLeaves D.Disk disk.old disk.new (images D.Disk disk.old) }
     ensures reads { OnlyReadsLog D.Disk result disk.old disk.new }
 {
-    settle_files(disk)?;
+    sync_files(disk)?;
     disk.sync(File::Log)
 }
 
-/// Settles the two files that the log is for.
-pub fn settle_files<D: Disk>(disk: &mut D) -> Result<(), Failed>
+/// Makes the two files durable that the log is for.
+pub fn sync_files<D: Disk>(disk: &mut D) -> Result<(), Failed>
     ensures same { IsTrue D.tells → D.files disk.new ≡ D.files disk.old }
-    ensures pkg { OnOk result (IsTrue D.tells → IsSettled File.Pkg (D.files disk.new) (images D.Disk disk.new)) }
-    ensures idx { OnOk result (IsTrue D.tells → IsSettled File.Idx (D.files disk.new) (images D.Disk disk.new)) }
-    ensures images { IsTrue D.tells → LeavesIn D.Disk disk.old disk.new (images D.Disk disk.old) }
+    ensures pkg { OnOk result (IsTrue D.tells → IsDurable File.Pkg (D.files disk.new) (images D.Disk disk.new)) }
+    ensures idx { OnOk result (IsTrue D.tells → IsDurable File.Idx (D.files disk.new) (images D.Disk disk.new)) }
+    ensures images { IsTrue D.tells → CrashLeaves D.Disk disk.old disk.new (images D.Disk disk.old) }
     ensures reads { OnlyReadsLog D.Disk result disk.old disk.new }
 {
     disk.sync(File::Pkg)?;
@@ -50,9 +50,9 @@ fn copy_piece<D: Disk>(
     requires fits { FitsAt at bytes.old }
     requires within { IsTrue D.tells → from + length bytes.old / 16 ≤ length (D.files disk.old).log }
     ensures written { OnOk result (IsTrue D.tells
-        → D.files disk.new ≡ with_file file (put at (take (length bytes.old / 16) (drop from (D.files disk.old).log))
+        → D.files disk.new ≡ with_file file (with_units at (take (length bytes.old / 16) (drop from (D.files disk.old).log))
         (file_of file (D.files disk.old))) (D.files disk.old)) }
-    ensures images { IsTrue D.tells → LeavesChanged D.Disk file at (at + length bytes.old / 16) disk.old disk.new }
+    ensures images { IsTrue D.tells → CrashChanges D.Disk file at (at + length bytes.old / 16) disk.old disk.new }
     ensures reads { OnlyReadsLog D.Disk result disk.old disk.new }
 {
     disk.read_at(File::Log, from, bytes)?;
@@ -74,9 +74,9 @@ fn copy_units<D: Disk>(
     requires room { at + count ≤ 2 ^ 28 }
     requires place { from ≤ 2 ^ 32 }
     ensures written { OnOk result (IsTrue D.tells → D.files disk.new
-        ≡ with_file file (put at (take count (drop from (D.files disk.old).log)) (file_of file (D.files disk.old)))
+        ≡ with_file file (with_units at (take count (drop from (D.files disk.old).log)) (file_of file (D.files disk.old)))
         (D.files disk.old)) }
-    ensures images { IsTrue D.tells → LeavesChanged D.Disk file at (at + count) disk.old disk.new }
+    ensures images { IsTrue D.tells → CrashChanges D.Disk file at (at + count) disk.old disk.new }
     ensures reads { OnlyReadsLog D.Disk result disk.old disk.new }
 {
     let mut page = [0u8; 4096];
@@ -92,19 +92,19 @@ fn copy_units<D: Disk>(
 
 /// Writes the entries after a commit record to their files. A head that isn't right any more gives its unit, which no
 /// disk that tells its contents has.
-fn copy_entries<D: Disk>(disk: &mut D, gate: Gate) -> Result<Option<u64>, Failed>
-    requires last { IsTrue D.tells → gate.last < length (D.files disk.old).log }
-    requires open { IsTrue D.tells → IsOpen (heads_behind gate (D.files disk.old).log) }
+fn copy_entries<D: Disk>(disk: &mut D, commit_record: CommitRecord) -> Result<Option<u64>, Failed>
+    requires last { IsTrue D.tells → commit_record.last < length (D.files disk.old).log }
+    requires open { IsTrue D.tells → IsOpen (heads_behind commit_record (D.files disk.old).log) }
     ensures none { IfOk result (λ fault. IsTrue D.tells → fault ≡ None) }
     ensures written { OnOk result (IsTrue D.tells → D.files disk.new
-        ≡ with_entries (entries_of (heads_behind gate (D.files disk.old).log)) (D.files disk.old)) }
-    ensures images { IsTrue D.tells → LeavesIn D.Disk disk.old disk.new
-        (WasWithin (entries_of (heads_behind gate (D.files disk.old).log)) (images D.Disk disk.old)) }
+        ≡ with_entries (entries_of (heads_behind commit_record (D.files disk.old).log)) (D.files disk.old)) }
+    ensures images { IsTrue D.tells → CrashLeaves D.Disk disk.old disk.new
+        (WasWithin (entries_of (heads_behind commit_record (D.files disk.old).log)) (images D.Disk disk.old)) }
     ensures reads { OnlyReadsLog D.Disk result disk.old disk.new }
 {
     let mut p = 1u64;
-    for _k in 0..gate.entries {
-        let Some(head) = read_head(disk, gate.last, p)? else {
+    for _k in 0..commit_record.entries {
+        let Some(head) = read_head(disk, commit_record.last, p)? else {
             return Ok(Some(p));
         };
         copy_units(disk, p + 1, head.file, head.first as u64, head.count)?;
@@ -113,37 +113,37 @@ fn copy_entries<D: Disk>(disk: &mut D, gate: Gate) -> Result<Option<u64>, Failed
     Ok(None)
 }
 
-/// Writes the entries after a commit record to their files, and settles these.
-fn apply_entries<D: Disk>(disk: &mut D, gate: Gate) -> Result<Option<u64>, Failed>
-    requires last { IsTrue D.tells → gate.last < length (D.files disk.old).log }
-    requires open { IsTrue D.tells → IsOpen (heads_behind gate (D.files disk.old).log) }
-    requires settled { IsTrue D.tells → AreSettled (D.files disk.old) (images D.Disk disk.old) }
+/// Writes the entries after a commit record to their files, and makes these durable.
+fn apply_entries<D: Disk>(disk: &mut D, commit_record: CommitRecord) -> Result<Option<u64>, Failed>
+    requires last { IsTrue D.tells → commit_record.last < length (D.files disk.old).log }
+    requires open { IsTrue D.tells → IsOpen (heads_behind commit_record (D.files disk.old).log) }
+    requires durable { IsTrue D.tells → AreDurable (D.files disk.old) (images D.Disk disk.old) }
     ensures none { IfOk result (λ fault. IsTrue D.tells → fault ≡ None) }
     ensures written { OnOk result (IsTrue D.tells → D.files disk.new
-        ≡ with_entries (entries_of (heads_behind gate (D.files disk.old).log)) (D.files disk.old)) }
-    ensures settled { OnOk result (IsTrue D.tells → AreSettled (D.files disk.new) (images D.Disk disk.new)) }
-    ensures images { IsTrue D.tells → LeavesIn D.Disk disk.old disk.new
-        (WasWithin (entries_of (heads_behind gate (D.files disk.old).log)) (images D.Disk disk.old)) }
+        ≡ with_entries (entries_of (heads_behind commit_record (D.files disk.old).log)) (D.files disk.old)) }
+    ensures durable { OnOk result (IsTrue D.tells → AreDurable (D.files disk.new) (images D.Disk disk.new)) }
+    ensures images { IsTrue D.tells → CrashLeaves D.Disk disk.old disk.new
+        (WasWithin (entries_of (heads_behind commit_record (D.files disk.old).log)) (images D.Disk disk.old)) }
     ensures reads { OnlyReadsLog D.Disk result disk.old disk.new }
 {
-    let fault = copy_entries(disk, gate)?;
-    settle_files(disk)?;
+    let fault = copy_entries(disk, commit_record)?;
+    sync_files(disk)?;
     Ok(fault)
 }
 
-/// Makes the commit record zeros, and settles the log.
+/// Makes the commit record zeros, and makes the log durable.
 pub fn close_log<D: Disk>(disk: &mut D) -> Result<(), Failed>
     requires some { IsTrue D.tells → 0 < length (D.files disk.old).log }
-    requires settled { IsTrue D.tells → AreSettled (D.files disk.old) (images D.Disk disk.old) }
+    requires durable { IsTrue D.tells → AreDurable (D.files disk.old) (images D.Disk disk.old) }
     requires open { IsTrue D.tells → IsOpen (log_state (D.files disk.old).log) }
     requires done { IsTrue D.tells → with_entries (entries_of (log_state (D.files disk.old).log))
-        (unlogged (D.files disk.old)) ≡ unlogged (D.files disk.old) }
+        (without_log (D.files disk.old)) ≡ without_log (D.files disk.old) }
     ensures closed { OnOk result (IsTrue D.tells → log_state (D.files disk.new).log ≡ Closed) }
     ensures behind { OnOk result (IsTrue D.tells → KeepsBehind 1 (D.files disk.old).log (D.files disk.new).log) }
-    ensures same { IsTrue D.tells → unlogged (D.files disk.new) ≡ unlogged (D.files disk.old) }
-    ensures settled { OnOk result (IsTrue D.tells → AreSettled (D.files disk.new) (images D.Disk disk.new)) }
-    ensures images { IsTrue D.tells → LeavesIn D.Disk disk.old disk.new (ReopensAs (unlogged (D.files disk.old))) }
-    ensures gate { IsTrue D.tells → LeavesChanged D.Disk File.Log 0 1 disk.old disk.new }
+    ensures same { IsTrue D.tells → without_log (D.files disk.new) ≡ without_log (D.files disk.old) }
+    ensures durable { OnOk result (IsTrue D.tells → AreDurable (D.files disk.new) (images D.Disk disk.new)) }
+    ensures images { IsTrue D.tells → CrashLeaves D.Disk disk.old disk.new (ReopensAs (without_log (D.files disk.old))) }
+    ensures commit_record { IsTrue D.tells → CrashChanges D.Disk File.Log 0 1 disk.old disk.new }
     ensures reads { OnlyReadsLog D.Disk result disk.old disk.new }
 {
     disk.write_at(File::Log, 0, &[0u8; 16])?;
@@ -152,21 +152,21 @@ pub fn close_log<D: Disk>(disk: &mut D) -> Result<(), Failed>
 }
 
 /// Finishes the change of a log with this commit record.
-fn finish<D: Disk>(disk: &mut D, gate: Gate) -> Result<bool, RecoverFault>
-    requires last { IsTrue D.tells → gate.last < length (D.files disk.old).log }
-    requires state { IsTrue D.tells → log_state (D.files disk.old).log ≡ heads_behind gate (D.files disk.old).log }
+fn finish<D: Disk>(disk: &mut D, commit_record: CommitRecord) -> Result<bool, RecoverFault>
+    requires last { IsTrue D.tells → commit_record.last < length (D.files disk.old).log }
+    requires state { IsTrue D.tells → log_state (D.files disk.old).log ≡ heads_behind commit_record (D.files disk.old).log }
     requires open { IsTrue D.tells → IsOpen (log_state (D.files disk.old).log) }
-    requires settled { IsTrue D.tells → AreSettled (D.files disk.old) (images D.Disk disk.old) }
+    requires durable { IsTrue D.tells → AreDurable (D.files disk.old) (images D.Disk disk.old) }
     ensures done { IfOk result (λ was_open. was_open ≡ true) }
     ensures fault { IfErr result (λ fault. IsTrue D.tells → fault ≡ RecoverFault.DiskFault) }
     ensures closed { OnOk result (IsTrue D.tells → log_state (D.files disk.new).log ≡ Closed) }
-    ensures files { OnOk result (IsTrue D.tells → unlogged (D.files disk.new) ≡ reopened (D.files disk.old)) }
-    ensures settled { OnOk result (IsTrue D.tells → AreSettled (D.files disk.new) (images D.Disk disk.new)) }
-    ensures images { IsTrue D.tells → LeavesIn D.Disk disk.old disk.new (ReopensAs (reopened (D.files disk.old))) }
-    ensures behind { IsTrue D.tells → LeavesIn D.Disk disk.old disk.new (λ image. KeepsBehind 1 (D.files disk.old).log image.log) }
+    ensures files { OnOk result (IsTrue D.tells → without_log (D.files disk.new) ≡ reopened (D.files disk.old)) }
+    ensures durable { OnOk result (IsTrue D.tells → AreDurable (D.files disk.new) (images D.Disk disk.new)) }
+    ensures images { IsTrue D.tells → CrashLeaves D.Disk disk.old disk.new (ReopensAs (reopened (D.files disk.old))) }
+    ensures behind { IsTrue D.tells → CrashLeaves D.Disk disk.old disk.new (λ image. KeepsBehind 1 (D.files disk.old).log image.log) }
     ensures reads { OnlyReadsLogOr D.Disk (result ≡ Err RecoverFault.DiskFault) disk.old disk.new }
 {
-    let Ok(fault) = apply_entries(disk, gate) else {
+    let Ok(fault) = apply_entries(disk, commit_record) else {
         return Err(RecoverFault::DiskFault);
     };
     if let Some(unit) = fault {
@@ -184,29 +184,29 @@ fn finish<D: Disk>(disk: &mut D, gate: Gate) -> Result<bool, RecoverFault>
 /// # Errors
 ///
 /// `BadLog` where the log is malformed, with the unit. `DiskFault` only where the count of faults rose. Whatever the
-/// answer, the disk stands for what it stood for at the start, and each image that a crash since the start may leave
-/// for what one of the start stood for; its log is malformed only where that one is left with all its files as it was.
+/// answer, the disk represents what it represented at the start, and each image that a crash since the start may leave represents
+/// what one of the start represented; its log is malformed only where that one is left with all its files as it was.
 /// Where the log is closed or malformed, no file changes.
 pub fn recover<D: Disk>(disk: &mut D) -> Result<bool, RecoverFault>
     ensures says { IsTrue D.tells → RecoverSays (log_state (D.files disk.old).log) result }
     ensures kept { IsTrue D.tells → RecoverKeeps (log_state (D.files disk.old).log) (D.files disk.old) (D.files disk.new) }
     ensures closed { OnOk result (IsTrue D.tells → log_state (D.files disk.new).log ≡ Closed) }
-    ensures files { OnOk result (IsTrue D.tells → unlogged (D.files disk.new) ≡ reopened (D.files disk.old)) }
-    ensures settled { OnOk result (IsTrue D.tells → AreSettled (D.files disk.new) (images D.Disk disk.new)) }
+    ensures files { OnOk result (IsTrue D.tells → without_log (D.files disk.new) ≡ reopened (D.files disk.old)) }
+    ensures durable { OnOk result (IsTrue D.tells → AreDurable (D.files disk.new) (images D.Disk disk.new)) }
     ensures stands { IsTrue D.tells → reopened (D.files disk.new) ≡ reopened (D.files disk.old) }
-    ensures images { IsTrue D.tells → LeavesIn D.Disk disk.old disk.new (ReopensAsOneOf (images D.Disk disk.old)) }
-    ensures behind { IsTrue D.tells → LeavesIn D.Disk disk.old disk.new
+    ensures images { IsTrue D.tells → CrashLeaves D.Disk disk.old disk.new (ReopensAsOneOf (images D.Disk disk.old)) }
+    ensures behind { IsTrue D.tells → CrashLeaves D.Disk disk.old disk.new
         (λ image. (from : Files) × images D.Disk disk.old from × KeepsBehind 1 from.log image.log) }
     ensures reads { ReadsLog D.Disk disk.old disk.new }
     ensures cause { DiskFault D.Disk (result ≡ Err RecoverFault.DiskFault) disk.old disk.new }
 {
-    settle(disk).map_err(|_| RecoverFault::DiskFault)?;
+    sync_all(disk).map_err(|_| RecoverFault::DiskFault)?;
     let Ok(reading) = read_log(disk) else {
         return Err(RecoverFault::DiskFault);
     };
     match reading {
         Reading::Shut => Ok(false),
         Reading::Bad(unit) => Err(RecoverFault::BadLog { unit }),
-        Reading::Opened(gate) => finish(disk, gate),
+        Reading::Opened(commit_record) => finish(disk, commit_record),
     }
 }

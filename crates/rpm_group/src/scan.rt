@@ -1,7 +1,7 @@
 //! The runs of held units, in order.
 
 ghost use Rattle.std.specs.Prelude.{◌≡◌, ℕ, ◌+◌, ◌-◌, ◌*◌, ◌/◌, ◌%◌, ◌<◌, ◌≤◌, ◌^◌, false, not, None};
-ghost use Rattle.rpm_group.specs.Prelude.{begins_run, count_below, is_held, IsNext};
+ghost use Rattle.rpm_group.specs.Prelude.{begins_run, count_below, is_held, IsNextPlace};
 
 use crate::page::next_mark;
 use crate::table::{Table, absent, page_of};
@@ -49,7 +49,7 @@ fn skip_absent(table: &Table, from: usize, end: usize, held: bool) -> usize
 pub fn next_unit(table: &Table, from: usize, end: usize, held: bool) -> usize
     requires ordered { from ≤ end }
     requires small { end ≤ 2 ^ 28 }
-    ensures { IsNext (is_held table.now.items) held from end result }
+    ensures { IsNextPlace (is_held table.now.items) held from end result }
 {
     let mut at = skip_absent(table, from, end, held);
     while at < end {
@@ -70,7 +70,7 @@ pub fn next_unit(table: &Table, from: usize, end: usize, held: bool) -> usize
 pub fn next_absent(table: &Table, from: usize, end: usize) -> usize
     requires ordered { from ≤ end }
     requires small { end ≤ 2 ^ 28 }
-    ensures { IsNext (is_held table.now.items) false from end result }
+    ensures { IsNextPlace (is_held table.now.items) false from end result }
 {
     next_unit(table, from, end, false)
 }

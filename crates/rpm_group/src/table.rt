@@ -5,7 +5,7 @@
 //! nothing is held costs 24 bytes.
 
 ghost use Rattle.std.specs.Prelude.{◌≡◌, ℕ, ◌+◌, ◌-◌, ◌*◌, ◌/◌, ◌%◌, ◌<◌, ◌≤◌, ◌^◌, true, None, length, is_some, OnOk, MatchOption, IsTrue};
-ghost use Rattle.rpm_group.specs.Prelude.{AreHeld, AreThere, held_at, Holds, in_page, KeepsPages, LaysOver, page_at, SameHeld, SamePages};
+ghost use Rattle.rpm_group.specs.Prelude.{AreHeld, AreThere, held_at, HoldsUnits, in_page, KeepsPages, LaysOver, page_at, SameHeld, SamePages};
 
 use crate::leaf::{Leaf, add, hold as hold_in_leaf};
 use crate::page::Page;
@@ -55,7 +55,7 @@ fn hold_in(table: &mut Table, q: usize, at: usize, bytes: &[u8])
     requires there { is_some (page_at table.old.items q) ≡ true }
     requires whole { length bytes.now % 16 ≡ 0 }
     requires within { at + length bytes.now / 16 ≤ 256 }
-    ensures holds { Holds (256 * q + at) bytes.now table.old.items table.new.items }
+    ensures holds { HoldsUnits (256 * q + at) bytes.now table.old.items table.new.items }
     ensures pages { KeepsPages table.old.items table.new.items }
 {
     if q / 256 < table.len() {
@@ -68,7 +68,7 @@ pub fn hold(table: &mut Table, unit: usize, bytes: &[u8])
     requires whole { length bytes.now % 16 ≡ 0 }
     requires room { unit + length bytes.now / 16 ≤ 2 ^ 28 }
     requires there { AreThere (unit / 256) ((unit + length bytes.now / 16 + 255) / 256) table.old.items }
-    ensures { Holds unit bytes.now table.old.items table.new.items }
+    ensures { HoldsUnits unit bytes.now table.old.items table.new.items }
 {
     let count = bytes.len() / 16;
     let mut done = 0;

@@ -1,7 +1,7 @@
 //! Runs of held units are written to a disk.
 
 ghost use Rattle.std.specs.Prelude.{◌≡◌, ℕ, ◌+◌, ◌-◌, ◌*◌, ◌/◌, ◌%◌, ◌<◌, ◌≤◌, ◌^◌, IsTrue, true, length, OnOk, ◌∷◌};
-ghost use Rattle.rpm_group.specs.Prelude.{AreHeld, file_of, Files, FitsAt, images, LeavesChanged, number_of, put, ReadsNothing, unit_of_words, units_held, units_of, with_file};
+ghost use Rattle.rpm_group.specs.Prelude.{AreHeld, file_of, Files, FitsAt, images, CrashChanges, number_of_file, with_units, ReadsNothing, unit_of_words, units_held, units_of, with_file};
 
 use crate::table::{Table, lay};
 use rpm_outside::{Disk, Failed, File, unit_of_words};
@@ -11,7 +11,7 @@ pub type Buffer = [u8; 65_536];
 
 /// The head of so many units of a file.
 fn head_of(file: File, first: u32, count: u32) -> [u8; 16]
-    ensures { result ≡ unit_of_words (number_of file) first count 0 }
+    ensures { result ≡ unit_of_words (number_of_file file) first count 0 }
 {
     match file {
         File::Pkg => unit_of_words(1, first, count, 0),
@@ -33,9 +33,9 @@ fn write_piece<D: Disk>(
     requires held { AreHeld table.now.items from (from + length bytes.old / 16) }
     requires small { from + length bytes.old / 16 ≤ 2 ^ 28 }
     ensures written { OnOk result (IsTrue D.tells → D.files disk.new
-        ≡ with_file file (put at (units_held table.now.items from (length bytes.old / 16))
+        ≡ with_file file (with_units at (units_held table.now.items from (length bytes.old / 16))
         (file_of file (D.files disk.old))) (D.files disk.old)) }
-    ensures images { IsTrue D.tells → LeavesChanged D.Disk file at (at + length bytes.old / 16) disk.old disk.new }
+    ensures images { IsTrue D.tells → CrashChanges D.Disk file at (at + length bytes.old / 16) disk.old disk.new }
     ensures reads { ReadsNothing D.Disk result disk.old disk.new }
 {
     lay(table, from, bytes);
@@ -59,9 +59,9 @@ pub fn write_run<D: Disk>(
     requires room { at + (end - from) ≤ 2 ^ 28 }
     requires small { end ≤ 2 ^ 28 }
     ensures written { OnOk result (IsTrue D.tells → D.files disk.new
-        ≡ with_file file (put at (units_held table.now.items from (end - from)) (file_of file (D.files disk.old)))
+        ≡ with_file file (with_units at (units_held table.now.items from (end - from)) (file_of file (D.files disk.old)))
         (D.files disk.old)) }
-    ensures images { IsTrue D.tells → LeavesChanged D.Disk file at (at + (end - from)) disk.old disk.new }
+    ensures images { IsTrue D.tells → CrashChanges D.Disk file at (at + (end - from)) disk.old disk.new }
     ensures reads { ReadsNothing D.Disk result disk.old disk.new }
 {
     let mut done = from;
@@ -89,9 +89,9 @@ pub fn log_run<D: Disk>(
     requires room { at + 1 + (end - from) ≤ 2 ^ 28 }
     requires small { end ≤ 2 ^ 28 }
     ensures written { OnOk result (IsTrue D.tells → D.files disk.new ≡ with_file File.Log
-        (put at (unit_of_words (number_of file) from (end - from) 0 ∷ units_held table.now.items from (end - from))
+        (with_units at (unit_of_words (number_of_file file) from (end - from) 0 ∷ units_held table.now.items from (end - from))
         (D.files disk.old).log) (D.files disk.old)) }
-    ensures images { IsTrue D.tells → LeavesChanged D.Disk File.Log at (at + 1 + (end - from)) disk.old disk.new }
+    ensures images { IsTrue D.tells → CrashChanges D.Disk File.Log at (at + 1 + (end - from)) disk.old disk.new }
     ensures reads { ReadsNothing D.Disk result disk.old disk.new }
 {
     let head = head_of(file, from as u32, (end - from) as u32);

@@ -1,7 +1,7 @@
 -- Entries that are laid out are read again.
 use Rattle.std.proofs.Common.{◌≡◌, ℕ, ◌+◌, ◌-◌, ◌*◌, ◌^◌, ◌<◌, ◌≤◌, List, ◌∷◌, ◌++◌, length, drop, sym, ap, ◌∙◌, append_assoc, length-append, arith}
 use Rattle.std.specs.Prelude.{replicate}
-use Rattle.rpm_header.proofs.Vocabulary.{AllByRecursion, bytes_in, data_from, end_of, index_bytes, index_entry, index_from, indexed, Item, offset_of}
+use Rattle.rpm_header.proofs.Vocabulary.{AllByRecursion, entry_bytes, data_from, end_of_data, index_bytes, index_entry, index_from, entry_in_index, Item, offset_of}
 use Rattle.rpm_header.proofs.Vocabulary.{ReadsBack, section_of}
 use Rattle.std.proofs.lemmas.List.{drop_at, length-replicate}
 use Rattle.rpm_header.proofs.LaidOut.{offset_behind, data_length}
@@ -19,12 +19,12 @@ pub record Stands (il : ℕ) (blob : List ℕ) (a at : ℕ) (es : List Item) : T
 -- the first of them
 pub record StandsFirst (il : ℕ) (blob : List ℕ) (a at : ℕ) (e : Item) : Type 0 where
   pub back : ReadsBack e
-  pub entry : index_entry il blob a ≡ indexed (offset_of at e) e
+  pub entry : index_entry il blob a ≡ entry_in_index (offset_of at e) e
   pub within : offset_of at e ≤ length (section_of il blob)
-  pub elements : (rest : List ℕ) × (drop (offset_of at e) (section_of il blob) ≡ bytes_in e ++ rest)
+  pub elements : (rest : List ℕ) × (drop (offset_of at e) (section_of il blob) ≡ entry_bytes e ++ rest)
 
 module _ (il : ℕ) (blob : List ℕ) (a at : ℕ) (e : Item) (es : List Item) (s : Stands il blob a at (e ∷ es)) where
-  fits : Fits (indexed (offset_of at e) e)
+  fits : Fits (entry_in_index (offset_of at e) e)
   fits = record {
     tag = s.each.0.tag;
     kind = kind_small e.form;
@@ -32,11 +32,11 @@ module _ (il : ℕ) (blob : List ℕ) (a at : ℕ) (e : Item) (es : List Item) (
     count = omega (arith, s.small, s.each.0.few, data_length at e es);
   }
 
-  in_front : (index_entry il blob a ≡ indexed (offset_of at e) e) × (drop (8 + 16 * a + 16) blob ≡ index_from (end_of at e) es ++ s.index.0)
+  in_front : (index_entry il blob a ≡ entry_in_index (offset_of at e) e) × (drop (8 + 16 * a + 16) blob ≡ index_from (end_of_data at e) es ++ s.index.0)
   unfolding index_from
   in_front =
-      index_front blob (index_from (end_of at e) es ++ s.index.0) (8 + 16 * a) (indexed (offset_of at e) e) fits (s.index.1
-      ∙ append_assoc (index_bytes (indexed (offset_of at e) e)) (index_from (end_of at e) es) s.index.0)
+      index_front blob (index_from (end_of_data at e) es ++ s.index.0) (8 + 16 * a) (entry_in_index (offset_of at e) e) fits (s.index.1
+      ∙ append_assoc (index_bytes (entry_in_index (offset_of at e) e)) (index_from (end_of_data at e) es) s.index.0)
 
   zeros : List ℕ
   zeros = replicate (offset_of at e - at) 0
@@ -55,7 +55,7 @@ module _ (il : ℕ) (blob : List ℕ) (a at : ℕ) (e : Item) (es : List Item) (
         offset_behind at e,
       )
 
-  split : section_of il blob ≡ before ++ (bytes_in e ++ (data_from (end_of at e) es ++ s.stored.1))
+  split : section_of il blob ≡ before ++ (entry_bytes e ++ (data_from (end_of_data at e) es ++ s.stored.1))
   unfolding data_from before zeros
   split = s.stored.3 ∙ simp append_assoc
 
@@ -63,26 +63,26 @@ module _ (il : ℕ) (blob : List ℕ) (a at : ℕ) (e : Item) (es : List Item) (
   stands_first = record {
     back = s.each.0;
     entry = in_front.0;
-    within = omega (arith, ap length split, length-append before (bytes_in e ++ (data_from (end_of at e) es ++ s.stored.1)), before_length);
+    within = omega (arith, ap length split, length-append before (entry_bytes e ++ (data_from (end_of_data at e) es ++ s.stored.1)), before_length);
     elements = (
-      data_from (end_of at e) es ++ s.stored.1,
+      data_from (end_of_data at e) es ++ s.stored.1,
       ap (drop (offset_of at e)) split
-          ∙ drop_at before (bytes_in e ++ (data_from (end_of at e) es ++ s.stored.1)) (offset_of at e) before_length,
+          ∙ drop_at before (entry_bytes e ++ (data_from (end_of_data at e) es ++ s.stored.1)) (offset_of at e) before_length,
     );
   }
 
-  pub stands_rest : Stands il blob (a + 1) (end_of at e) es
+  pub stands_rest : Stands il blob (a + 1) (end_of_data at e) es
   stands_rest =
       let step : 8 + 16 * a + 16 ≡ 8 + 16 * (a + 1) = omega arith in
       record {
         each = s.each.1;
         index = (s.index.0, rw (← step) in_front.1);
         stored = (
-          before ++ bytes_in e,
+          before ++ entry_bytes e,
           s.stored.1,
-          length-append before (bytes_in e) ∙ ap (λ n. n + length (bytes_in e)) before_length,
+          length-append before (entry_bytes e) ∙ ap (λ n. n + length (entry_bytes e)) before_length,
           split
-              ∙ sym (append_assoc before (bytes_in e) (data_from (end_of at e) es ++ s.stored.1)),
+              ∙ sym (append_assoc before (entry_bytes e) (data_from (end_of_data at e) es ++ s.stored.1)),
         );
         small = omega (arith, s.small, data_length at e es, offset_behind at e);
       }

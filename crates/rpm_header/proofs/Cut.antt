@@ -1,7 +1,7 @@
 -- A header's own bytes, cut out of what they stand in front of.
 use Rattle.std.proofs.Common.{◌≡◌, ℕ, suc, ◌+◌, ◌-◌, ◌*◌, ◌≤◌, List, [], ◌∷◌, length, take, drop, false, Ok, refl, sym, ◌∙◌, arith, le-ltb}
 use Rattle.std.specs.Prelude.{nat_lt}
-use Rattle.rpm_header.proofs.Vocabulary.{entries, fault_at, from_be_bytes, header, header_of, IsCut, IsSound, number_at, w32}
+use Rattle.rpm_header.proofs.Vocabulary.{entries, fault_at, from_be_bytes, header, header_of, IsCutAsSaid, IsBlobSound, number_at, w32}
 use Rattle.std.proofs.lemmas.List.{drop-take, length-take-le, take_all}
 use Rattle.rpm_header.proofs.Each.{first_none}
 
@@ -20,7 +20,7 @@ number_in_front n at bytes within =
     rw (← size, drop-take) (four_in_front (n - (at + 4)) (drop at bytes))
 
 pub is_cut : (il dl n : ℕ) (bytes : List ℕ) → il ≡ number_at w32 bytes 0 → dl ≡ number_at w32 bytes 4 → n ≡ 8 + 16 * il + dl → n ≤ length bytes → il ≤ 65535
-    → dl ≤ 67108864 → IsCut il (take n bytes)
+    → dl ≤ 67108864 → IsCutAsSaid il (take n bytes)
 is_cut il dl n bytes il_is dl_is n_is within few small =
     let second : number_at w32 (take n bytes) 4 ≡ number_at w32 bytes 4 = number_in_front n 4 bytes (omega arith) in
     record {
@@ -31,7 +31,7 @@ is_cut il dl n bytes il_is dl_is n_is within few small =
     }
 
 -- read again, a header's own bytes give the same header
-pub again : (il : ℕ) (blob : List ℕ) → IsSound il blob → header blob ≡ Ok (record { blob = blob; entries = entries il blob })
+pub again : (il : ℕ) (blob : List ℕ) → IsBlobSound il blob → header blob ≡ Ok (record { blob = blob; entries = entries il blob })
 unfolding header header_of
 again il blob sound =
     let long : nat_lt (length blob) 8 ≡ false = le-ltb (length blob) 8 (omega arith) in

@@ -1,6 +1,6 @@
 -- The header of a header with further entries after its own.
 use Rattle.std.proofs.Common.{◌≡◌, ℕ, ◌+◌, ◌*◌, ◌<◌, ◌≤◌, List, [], ◌++◌, length, take, drop, map, None, Ok, refl, sym, ap, ◌∙◌, append_assoc, length-append, length-drop, arith, inl, inr}
-use Rattle.rpm_header.proofs.Vocabulary.{AllByRecursion, blob_of, data_from, dribbled, dribbled_data, dribbled_index, entries, entry_of, fault_at, Header}
+use Rattle.rpm_header.proofs.Vocabulary.{AllByRecursion, blob_of, data_from, dribbled_blob, dribbled_data, dribbled_index, entries, entry_of, fault_at, Header}
 use Rattle.rpm_header.proofs.Vocabulary.{header, index_entry, index_from, IndexEntry, Item, Lengths, own_data, own_index, range_with_len, ReadsBack}
 use Rattle.rpm_header.proofs.Vocabulary.{section_of, to_be_bytes, w32}
 use Rattle.std.proofs.lemmas.Bool.Decides.{leb_tells}
@@ -40,12 +40,12 @@ module _ (h : Header) (more : List Item) (o : IsOpened h) (each : AllByRecursion
   own = section_is n (dribbled_index h more) (dribbled_data h more) few sixteen small
 
   -- the two parts of what is laid out
-  pub new_data : own_data (record { blob = dribbled h more; entries = h.entries ++ more }) ≡ dribbled_data h more
-  unfolding dribbled
+  pub new_data : own_data (record { blob = dribbled_blob h more; entries = h.entries ++ more }) ≡ dribbled_data h more
+  unfolding dribbled_blob
   new_data = rw (length-append h.entries more) own
 
-  pub new_index : own_index (record { blob = dribbled h more; entries = h.entries ++ more }) ≡ dribbled_index h more
-  unfolding dribbled
+  pub new_index : own_index (record { blob = dribbled_blob h more; entries = h.entries ++ more }) ≡ dribbled_index h more
+  unfolding dribbled_blob
   new_index = rw (length-append h.entries more) (take_at (dribbled_index h more) (dribbled_data h more) (16 * n) sixteen)
 
   behind : drop 8 blob ≡ own_index h ++ (index_from size more ++ dribbled_data h more)
@@ -106,8 +106,8 @@ module _ (h : Header) (more : List Item) (o : IsOpened h) (each : AllByRecursion
       same_below item (λ k. entry_of (index_entry il h.blob k) (section_of il h.blob)) 0 il (λ k from below. item_kept k (omega arith)) ∙ sym o.same in
       split ∙ rw (first, entries_again more n blob il size stands) refl
 
-  pub dribbled_again : header (dribbled h more) ≡ Ok (record { blob = dribbled h more; entries = h.entries ++ more })
-  unfolding dribbled
+  pub dribbled_again : header (dribbled_blob h more) ≡ Ok (record { blob = dribbled_blob h more; entries = h.entries ++ more })
+  unfolding dribbled_blob
   dribbled_again = header_is n (dribbled_index h more) (dribbled_data h more) few sixteen small (h.entries ++ more) all_sound all_entries
 
 -- ---- the parts in the order in which they are written
@@ -120,8 +120,8 @@ pub dribbled_parts : (h : Header) (more : List Item) (l : Lengths) (begun a b c 
     → IsWithin (length h.entries + length more) (length (dribbled_data h more)) l
     → begun ≡ to_be_bytes w32 l.entries ++ to_be_bytes w32 l.size
     → a ≡ begun ++ own_index h → b ≡ a ++ index_from (length (own_data h)) more → c ≡ b ++ own_data h → d ≡ c ++ data_from (length (own_data h)) more
-    → d ≡ dribbled h more
-unfolding dribbled
+    → d ≡ dribbled_blob h more
+unfolding dribbled_blob
 dribbled_parts h more l begun a b c d w front ia ib ic id =
     let lengths : begun ≡ to_be_bytes w32 (length h.entries + length more) ++ to_be_bytes w32 (length (dribbled_data h more)) =
     front ∙ rw (w.entries, w.size) refl in
@@ -134,7 +134,7 @@ pub dribbled_pieces : (h : Header) (more : List Item) (l : Lengths) (begun a b c
     → begun ≡ to_be_bytes w32 l.entries ++ to_be_bytes w32 l.size
     → index ≡ own_index h → section ≡ own_data h → es ≡ more → fs ≡ more
     → a ≡ begun ++ index → b ≡ a ++ index_from (length section) es → c ≡ b ++ section → d ≡ c ++ data_from (length section) fs
-    → d ≡ dribbled h more
+    → d ≡ dribbled_blob h more
 dribbled_pieces h more l begun a b c d index section es fs w front is ss ie fe ia ib ic id =
     dribbled_parts h more l begun a b c d w front (ia ∙ ap (λ (x : List ℕ). begun ++ x) is)
     (ib ∙ ap (λ (x : List ℕ). a ++ index_from (length x) es) ss ∙ ap (λ (x : List Item). a ++ index_from (length (own_data h)) x) ie)
@@ -143,6 +143,6 @@ dribbled_pieces h more l begun a b c d index section es fs w front is ss ie fe i
 
 -- what is written is the header, which is read again
 pub dribbled_written : (h : Header) (more : List Item) (l : Lengths) (blob : List ℕ) → IsOpened h → AllByRecursion ReadsBack more
-    → IsWithin (length h.entries + length more) (length (dribbled_data h more)) l → blob ≡ dribbled h more
+    → IsWithin (length h.entries + length more) (length (dribbled_data h more)) l → blob ≡ dribbled_blob h more
     → header blob ≡ Ok (record { blob = blob; entries = h.entries ++ more })
 dribbled_written h more l blob o each w is = rw is (dribbled_again h more o each w.few w.small)

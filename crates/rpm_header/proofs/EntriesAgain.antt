@@ -1,15 +1,15 @@
 -- The entries of a header that is laid out are read again, and have no fault.
 use Rattle.std.proofs.Common.{◌≡◌, ℕ, ◌+◌, ◌%◌, ◌<◌, ◌≤◌, List, [], ◌∷◌, ◌++◌, length, drop, map, true, false, cond, eqb, Bool, le-ltb, Option, Some, None, refl, ap, ◌∙◌, arith, inl, inr}
 use Rattle.std.specs.Prelude.{nat_lt, not, ◌||◌, ◌&&◌}
-use Rattle.rpm_header.proofs.Vocabulary.{alignment, BadOffset, bytes_in, element_fault, end_of, entry_fault, entry_of, fault_at, Form, form_fault, form_of}
-use Rattle.rpm_header.proofs.Vocabulary.{index_entry, indexed, IndexEntry, is_region_tag, Item, offset_of, option_or, range_with_len, ReadsBack, section_of}
+use Rattle.rpm_header.proofs.Vocabulary.{alignment, BadOffset, entry_bytes, element_fault, end_of_data, entry_fault, entry_of, fault_at, Form, form_fault, form_of}
+use Rattle.rpm_header.proofs.Vocabulary.{index_entry, entry_in_index, IndexEntry, is_region_tag, Item, offset_of, option_or, range_with_len, ReadsBack, section_of}
 use Rattle.std.proofs.lemmas.Bool.{cases_eq}
 use Rattle.rpm_header.specs.declared.form.Form.TheVariants as form
 use Rattle.rpm_header.proofs.IndexAgain.{form_again}
 use Rattle.rpm_header.proofs.Again.{Stands, StandsFirst, stands_first, stands_rest}
 
-pub indexed_again : (offset : ℕ) (e : Item) (section rest : List ℕ) → ReadsBack e → drop offset section ≡ bytes_in e ++ rest
-    → entry_of (indexed offset e) section ≡ e
+pub indexed_again : (offset : ℕ) (e : Item) (section rest : List ℕ) → ReadsBack e → drop offset section ≡ entry_bytes e ++ rest
+    → entry_of (entry_in_index offset e) section ≡ e
 unfolding entry_of
 indexed_again offset e section rest back there = rw (form_again e.form, there, back.again rest) refl
 
@@ -66,7 +66,8 @@ first_sound il blob a at e s =
     let element : element_fault e.form a e.count (drop (offset_of at e) (section_of il blob)) ≡ None = rw s.elements.1 (s.back.sound a s.elements.0) in
     let kind : form_of (index_entry il blob a).kind ≡ Some e.form = ap (λ (i : IndexEntry). form_of i.kind) s.entry ∙ form_again e.form in
     let own : form_fault (form_of (index_entry il blob a).kind) a (index_entry il blob a) (section_of il blob) ≡ None =
-    rw (kind, s.entry) (form_sound e.form a (indexed (offset_of at e) e) (section_of il blob) s.within (aligned e.form at e refl) s.back.no_null element) in
+    rw (kind, s.entry) (form_sound e.form a (entry_in_index (offset_of at e) e) (section_of il blob) s.within
+    (aligned e.form at e refl) s.back.no_null element) in
     let tag : is_region_tag (index_entry il blob a).tag ≡ false = ap (λ (i : IndexEntry). is_region_tag i.tag) s.entry ∙ s.back.no_region in
     let test = and_false (eqb a 0) (is_region_tag (index_entry il blob a).tag) tag in
     neither _ _ own (rw test refl)
@@ -75,7 +76,8 @@ pub entries_again : (es : List Item) (il : ℕ) (blob : List ℕ) (a at : ℕ) �
     → map (λ i. entry_of (index_entry il blob i) (section_of il blob)) (range_with_len a (length es)) ≡ es
 entries_again [] il blob a at s = refl
 entries_again (e ∷ es) il blob a at s =
-    rw (first_again il blob a at e (stands_first il blob a at e es s), entries_again es il blob (a + 1) (end_of at e) (stands_rest il blob a at e es s)) refl
+    rw (first_again il blob a at e (stands_first il blob a at e es s), entries_again es il blob (a + 1) (end_of_data at e) (stands_rest il blob a at e es s))
+    refl
 
 pub sound_again : (es : List Item) (il : ℕ) (blob : List ℕ) (a at : ℕ) → Stands il blob a at es → (k : ℕ) → a ≤ k → k < a + length es
     → fault_at il blob k ≡ None
@@ -83,5 +85,5 @@ sound_again [] il blob a at s k from below = absurd (omega arith)
 sound_again (e ∷ es) il blob a at s k from below =
     elim (cases_eq a k) [
       | inl same ↦ (rw (← same) (first_sound il blob a at e (stands_first il blob a at e es s)))
-      | inr other ↦ (sound_again es il blob (a + 1) (end_of at e) (stands_rest il blob a at e es s) k (omega arith) (omega arith))
+      | inr other ↦ (sound_again es il blob (a + 1) (end_of_data at e) (stands_rest il blob a at e es s) k (omega arith) (omega arith))
     ]

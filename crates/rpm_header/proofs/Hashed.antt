@@ -1,7 +1,7 @@
 -- The region of a header lies in it, and what is hashed of it.
 use Rattle.std.proofs.Common.{◌≡◌, ℕ, ◌+◌, ◌-◌, ◌*◌, ◌/◌, ◌%◌, ◌^◌, ◌<◌, ◌≤◌, List, [], ◌∷◌, ◌++◌, length, take, drop, map, true, eqb, leb, Some, None, refl, sym, ap, subst, ◌∙◌, length-drop, arith, inl, inr}
 use Rattle.std.specs.Prelude.{slice_get}
-use Rattle.rpm_header.proofs.Vocabulary.{begins_with, counts_back, form_fault, form_of, Header, in_file, index_entry, index_entry_at, IndexEntry}
+use Rattle.rpm_header.proofs.Vocabulary.{begins_with, counts_back, form_fault, form_of, Header, header_in_file, index_entry, index_entry_at, IndexEntry}
 use Rattle.rpm_header.proofs.Vocabulary.{is_region_tag, Item, magic, number_at, own_data, own_index, region_entries, region_entry, region_fault}
 use Rattle.rpm_header.proofs.Vocabulary.{region_in_file, to_be_bytes, w32}
 use Rattle.std.proofs.lemmas.Bool.{eqb-true, leb-true}
@@ -14,8 +14,8 @@ use Rattle.rpm_header.proofs.Opened.{IsOpened}
 use Rattle.rpm_header.proofs.RegionLonger.{fault_is, none_of, number_behind, is_region, trailer_room}
 
 pub message : (a b d i s : List ℕ) (n size : ℕ) → a ≡ magic → b ≡ to_be_bytes w32 n → d ≡ to_be_bytes w32 size
-    → [] ++ a ++ b ++ d ++ i ++ s ≡ in_file n size i s
-unfolding in_file
+    → [] ++ a ++ b ++ d ++ i ++ s ≡ header_in_file n size i s
+unfolding header_in_file
 message a b d i s n size ia ib id = rw (ia, ib, id) refl
 
 -- the number of entries that a trailer counts back
@@ -102,7 +102,7 @@ module _ (h : Header) (o : IsOpened h) (begins : begins_with 63 h.entries ≡ tr
 pub record ReadsRegion (h : Header) (index section : List ℕ) (region trailer : IndexEntry) : Type 0 where
   pub offset : region.offset ≡ (region_entry h).offset
   pub entries : (2 ^ 32 - trailer.offset) / 16 ≡ region_entries h
-  pub hashed : in_file ((2 ^ 32 - trailer.offset) / 16) (region.offset + 16) (take (16 * ((2 ^ 32 - trailer.offset) / 16)) index)
+  pub hashed : header_in_file ((2 ^ 32 - trailer.offset) / 16) (region.offset + 16) (take (16 * ((2 ^ 32 - trailer.offset) / 16)) index)
       (take (region.offset + 16) section) ≡ region_in_file h
 
 pub reads_region : (h : Header) (index section : List ℕ) (region trailer : IndexEntry) → index ≡ own_index h → section ≡ own_data h

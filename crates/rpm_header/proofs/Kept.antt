@@ -1,7 +1,7 @@
 -- The region of a header stays as it is where further entries stand after its own.
 use Rattle.std.proofs.Common.{◌≡◌, ℕ, ◌+◌, ◌-◌, ◌*◌, ◌/◌, ◌^◌, ◌≤◌, List, [], ◌∷◌, ◌++◌, length, take, true, eqb, Ok, Result, refl, sym, ap, ◌∙◌, arith, inl, inr}
-use Rattle.rpm_header.proofs.Vocabulary.{AllByRecursion, begins_with, data_from, dribbled, dribbled_data, dribbled_index, Header, header, HeaderFault}
-use Rattle.rpm_header.proofs.Vocabulary.{immutable_digest, in_file, index_from, Item, Lengths, number_at, number_longer, own_data, own_index, ReadsBack}
+use Rattle.rpm_header.proofs.Vocabulary.{AllByRecursion, begins_with, data_from, dribbled_blob, dribbled_data, dribbled_index, Header, header, HeaderFault}
+use Rattle.rpm_header.proofs.Vocabulary.{immutable_digest, header_in_file, index_from, Item, Lengths, number_at, number_longer, own_data, own_index, ReadsBack}
 use Rattle.rpm_header.proofs.Vocabulary.{region_in_file, w32}
 use Rattle.std.proofs.lemmas.Bool.{cases_Bool}
 use Rattle.std.proofs.lemmas.List.{take-append-le}
@@ -23,7 +23,7 @@ abbrev hashed_of : List ℕ → List ℕ → List ℕ
 hashed_of index section =
     let offset = offset_in index in
     let r = entries_in section offset in
-    in_file r (offset + 16) (take (16 * r) index) (take (offset + 16) section)
+    header_in_file r (offset + 16) (take (16 * r) index) (take (offset + 16) section)
 
 region_is : (h : Header) → region_in_file h ≡ hashed_of (own_index h) (own_data h)
 region_is h = refl
@@ -55,7 +55,7 @@ begins_kept (e ∷ es) more each = refl
 module _ (h : Header) (more : List Item) (o : IsOpened h) (each : AllByRecursion ReadsBack more) (few : length h.entries + length more ≤ 65535)
     (small : length (dribbled_data h more) ≤ 67108864) where
   abbrev read : Header
-  read = record { blob = dribbled h more; entries = h.entries ++ more }
+  read = record { blob = dribbled_blob h more; entries = h.entries ++ more }
 
   region_kept : begins_with 63 h.entries ≡ true → region_in_file read ≡ region_in_file h
   region_kept begins =
@@ -82,7 +82,7 @@ module _ (h : Header) (more : List Item) (o : IsOpened h) (each : AllByRecursion
 
 -- what is written is read again with the same digest
 pub digest_written : (h read : Header) (more : List Item) (l : Lengths) (blob : List ℕ) → IsOpened h → AllByRecursion ReadsBack more
-    → IsWithin (length h.entries + length more) (length (dribbled_data h more)) l → blob ≡ dribbled h more → header blob ≡ Ok read
+    → IsWithin (length h.entries + length more) (length (dribbled_data h more)) l → blob ≡ dribbled_blob h more → header blob ≡ Ok read
     → immutable_digest read ≡ immutable_digest h
 digest_written h read more l blob o each w is told =
     let same : record { blob = blob; entries = h.entries ++ more } ≡ read =

@@ -1,7 +1,7 @@
 -- The limits of what is laid out, and its parts in the order in which they are written.
 use Rattle.std.proofs.Common.{◌≡◌, ℕ, ◌+◌, ◌-◌, ◌≤◌, List, [], ◌++◌, length, true, false, Bool, Ok, refl, ap, ◌∙◌, append_assoc, length-append, arith, inl, inr}
 use Rattle.std.specs.Prelude.{if◌then◌else◌}
-use Rattle.rpm_header.proofs.Vocabulary.{AllByRecursion, data_from, data_of, header, index_bytes, index_from, index_of, indexed, Item, laid, Lengths}
+use Rattle.rpm_header.proofs.Vocabulary.{AllByRecursion, data_from, data_of, header, index_bytes, index_from, index_of, entry_in_index, Item, laid_out, Lengths}
 use Rattle.rpm_header.proofs.Vocabulary.{lengths_of, ReadsBack, region_item, to_be_bytes, trailer, trailer_entry, w32, with_region}
 use Rattle.std.proofs.lemmas.Bool.Decides.{leb_tells}
 use Rattle.std.proofs.lemmas.List.{append-nil}
@@ -36,9 +36,9 @@ joined_region begun first index stored last a b c d ia ib ic id = rw (id, ic, ib
 pub laid_parts : (region : Bool) (es : List Item) (l : Lengths) (begun a b c d : List ℕ)
     → IsWithin (length (with_region region es)) (length (data_of region es)) l
     → begun ≡ to_be_bytes w32 l.entries ++ to_be_bytes w32 l.size
-    → a ≡ begun ++ (if region then index_bytes (indexed (l.size - 16) (region_item l.entries)) else [])
-    → b ≡ a ++ index_from 0 es → c ≡ b ++ data_from 0 es → d ≡ c ++ (if region then trailer l.entries else []) → d ≡ laid region es
-unfolding laid
+    → a ≡ begun ++ (if region then index_bytes (entry_in_index (l.size - 16) (region_item l.entries)) else [])
+    → b ≡ a ++ index_from 0 es → c ≡ b ++ data_from 0 es → d ≡ c ++ (if region then trailer l.entries else []) → d ≡ laid_out region es
+unfolding laid_out
 laid_parts false es l begun a b c d w front ia ib ic id =
     let lengths : begun ≡ to_be_bytes w32 (length es) ++ to_be_bytes w32 (length (data_from 0 es)) = front ∙ rw (w.entries, w.size) refl in
     joined_plain begun (index_from 0 es) (data_from 0 es) a b c d ia ib ic id ∙ ap (λ (f : List ℕ). f ++ index_from 0 es ++ data_from 0 es) lengths
@@ -47,8 +47,8 @@ laid_parts true es l begun a b c d w front ia ib ic id =
     let number : l.entries ≡ length es + 1 = omega (arith, w.entries) in
     let offset : l.size - 16 ≡ length (data_from 0 es) =
     omega (arith, w.size, length-append (data_from 0 es) (trailer (length es + 1)), length-index_bytes (trailer_entry (length es + 1))) in
-    let first : a ≡ begun ++ index_bytes (indexed (length (data_from 0 es)) (region_item (length es + 1))) =
-    ia ∙ ap (λ (k : ℕ). begun ++ index_bytes (indexed k (region_item (length es + 1)))) offset in
+    let first : a ≡ begun ++ index_bytes (entry_in_index (length (data_from 0 es)) (region_item (length es + 1))) =
+    ia ∙ ap (λ (k : ℕ). begun ++ index_bytes (entry_in_index k (region_item (length es + 1)))) offset in
     let last : d ≡ c ++ trailer (length es + 1) = id ∙ ap (λ (k : ℕ). c ++ trailer k) number in
     joined_region begun _ (index_from 0 es) (data_from 0 es) _ a b c d first ib ic last ∙ ap (λ (f : List ℕ). f ++ index_of true es ++ data_of true es) lengths
 
@@ -68,6 +68,6 @@ room_for_trailer true es l w is =
 
 -- what is written is the header, which is read again
 pub written : (region : Bool) (es : List Item) (l : Lengths) (blob : List ℕ) → AllByRecursion ReadsBack es
-    → IsWithin (length (with_region region es)) (length (data_of region es)) l → blob ≡ laid region es
+    → IsWithin (length (with_region region es)) (length (data_of region es)) l → blob ≡ laid_out region es
     → header blob ≡ Ok (record { blob = blob; entries = with_region region es })
 written region es l blob each w is = rw is (laid_again region es each w.few w.small)

@@ -1,6 +1,6 @@
 -- Two lengths, an index and data.
 use Rattle.std.proofs.Common.{◌≡◌, ℕ, ◌+◌, ◌*◌, ◌<◌, ◌≤◌, List, [], ◌∷◌, ◌++◌, length, take, le-ltb, None, Ok, refl, sym, ◌∙◌, length-append, arith}
-use Rattle.rpm_header.proofs.Vocabulary.{blob_of, end_of, entries, fault_at, header, header_of, index_bytes, index_from, indexed, IndexEntry, Item, number_at}
+use Rattle.rpm_header.proofs.Vocabulary.{blob_of, end_of_data, entries, fault_at, header, header_of, index_bytes, index_from, entry_in_index, IndexEntry, Item, number_at}
 use Rattle.rpm_header.proofs.Vocabulary.{offset_of, section_of, to_be_bytes, w32}
 use Rattle.std.proofs.lemmas.List.{drop_at, drop-drop, take_all}
 use Rattle.rpm_header.proofs.Each.{first_none}
@@ -14,8 +14,8 @@ pub length-index_from : (at : ℕ) (es : List Item) → length (index_from at es
 unfolding index_from
 length-index_from at [] = refl
 length-index_from at (e ∷ es) =
-    let i = indexed (offset_of at e) e in
-    omega (arith, length-index_from (end_of at e) es, length-append (index_bytes i) (index_from (end_of at e) es), length-index_bytes i)
+    let i = entry_in_index (offset_of at e) e in
+    omega (arith, length-index_from (end_of_data at e) es, length-append (index_bytes i) (index_from (end_of_data at e) es), length-index_bytes i)
 
 module _ (n : ℕ) (index section : List ℕ) (few : n ≤ 65535) (sixteen : length index ≡ 16 * n) (small : length section ≤ 67108864) where
   pub front_is : number_at w32 (blob_of n index section) 0 ≡ n

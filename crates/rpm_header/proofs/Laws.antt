@@ -2,8 +2,8 @@
 use Rattle.std.proofs.Common.{◌≡◌, ℕ, suc, ◌+◌, ◌-◌, ◌*◌, ◌^◌, ◌<◌, ◌≤◌, List, [], ◌∷◌, ◌++◌, length, take, drop, true, false, Bool, le-ltb, Option, Some, None, Ok, refl, sym, ap, ◌∙◌, append_assoc, length-append, arith, inl, inr}
 use Rattle.std.specs.Prelude.{if◌then◌else◌}
 use Rattle.rpm_header.proofs.Vocabulary.{AllByRecursion, blob_of, counts_back, data_from, data_of, element_fault, entries, entry_fault, entry_of, fault_at}
-use Rattle.rpm_header.proofs.Vocabulary.{form_fault, form_of, header, HeaderFault, index_bytes, index_entry, index_from, index_of, indexed, IndexEntry}
-use Rattle.rpm_header.proofs.Vocabulary.{is_region_tag, Item, laid, number_at, option_or, ReadsBack, region_fault, region_item, section_of, trailer}
+use Rattle.rpm_header.proofs.Vocabulary.{form_fault, form_of, header, HeaderFault, index_bytes, index_entry, index_from, index_of, entry_in_index, IndexEntry}
+use Rattle.rpm_header.proofs.Vocabulary.{is_region_tag, Item, laid_out, number_at, option_or, ReadsBack, region_fault, region_item, section_of, trailer}
 use Rattle.rpm_header.proofs.Vocabulary.{trailer_entry, w32, with_region}
 use Rattle.std.proofs.lemmas.Bool.{cases_eq}
 use Rattle.std.proofs.lemmas.List.{drop_at, take_all, append-nil}
@@ -60,7 +60,7 @@ module _ (es : List Item) (each : AllByRecursion ReadsBack es) (few : suc (lengt
   blob = blob_of il (index_of true es) section
 
   abbrev first_entry : IndexEntry
-  first_entry = indexed o (region_item entries_number)
+  first_entry = entry_in_index o (region_item entries_number)
 
   size : length section ≡ o + 16
   size = omega (arith, length-append (data_from 0 es) (trailer entries_number), length-index_bytes (trailer_entry entries_number))
@@ -134,7 +134,7 @@ module _ (es : List Item) (each : AllByRecursion ReadsBack es) (few : suc (lengt
 -- ---- the law
 
 pub laid_again : (region : Bool) (es : List Item) → AllByRecursion ReadsBack es → length (with_region region es) ≤ 65535 → length (data_of region es) ≤ 67108864
-    → header (laid region es) ≡ Ok (record { blob = laid region es; entries = with_region region es })
-unfolding laid
+    → header (laid_out region es) ≡ Ok (record { blob = laid_out region es; entries = with_region region es })
+unfolding laid_out
 laid_again false es each few small = plain_again es each few small
 laid_again true es each few small = region_again es each few small

@@ -1,14 +1,14 @@
 -- What is known of a header that was read from its own bytes.
 use Rattle.std.proofs.Common.{◌≡◌, ℕ, zero, suc, ◌+◌, ◌*◌, ◌<◌, ◌≤◌, List, ◌∷◌, length, take, map, Bool, true, false, Option, Some, None, Result, Ok, Err, refl, sym, ap, subst, ◌∙◌, arith, inl, inr}
 use Rattle.std.specs.Prelude.{nat_lt, if◌then◌else◌}
-use Rattle.rpm_header.proofs.Vocabulary.{each_below, entries, fault_at, first, Header, header, header_of, HeaderFault, IsCut, IsOwn, IsSound, Item, number_at}
+use Rattle.rpm_header.proofs.Vocabulary.{each_below, entries, fault_at, first, Header, header, header_of, HeaderFault, IsCutAsSaid, IsOwn, IsBlobSound, Item, number_at}
 use Rattle.rpm_header.proofs.Vocabulary.{range_with_len, Short, TooManyEntries, TooMuchData, unless, w32}
 use Rattle.std.proofs.lemmas.Bool.{cases_eq, ltb-false}
 use Rattle.rpm_header.proofs.Cut.{is_cut}
 use Rattle.rpm_header.proofs.Each.{length-entries}
 
 pub record IsOpened (h : Header) : Type 0 where
-  pub sound : IsSound (length h.entries) h.blob
+  pub sound : IsBlobSound (length h.entries) h.blob
   pub same : h.entries ≡ entries (length h.entries) h.blob
 
 passes : {X : Type 0} (test : Bool) (e : HeaderFault) (r : Result X HeaderFault) (x : X) → (if test then Err e else r) ≡ Ok x → (test ≡ false) × (r ≡ Ok x)
@@ -46,12 +46,12 @@ opened h is =
     let blob : own ≡ h.blob = ap (λ (x : Header). x.blob) parts.1 in
     let items : entries il own ≡ h.entries = ap (λ (x : Header). x.entries) parts.1 in
     let number : il ≡ length h.entries = sym (length-entries il own) ∙ ap (λ (es : List Item). length es) items in
-    let cut : IsCut il own =
+    let cut : IsCutAsSaid il own =
     is_cut il dl (8 + 16 * il + dl) h.blob refl refl refl (ltb-false (length h.blob) (8 + 16 * il + dl) whole.0) (ltb-false 65535 il few.0)
     (ltb-false 67108864 dl small.0) in
-    let sound : IsSound il own = record { cut = cut; faultless = λ k below. none_from (fault_at il own) 0 il parts.0 k (omega arith) (omega arith) } in
+    let sound : IsBlobSound il own = record { cut = cut; faultless = λ k below. none_from (fault_at il own) 0 il parts.0 k (omega arith) (omega arith) } in
     record {
-      sound = subst (λ (b : List ℕ). IsSound (length h.entries) b) blob (subst (λ (n : ℕ). IsSound n own) number sound);
+      sound = subst (λ (b : List ℕ). IsBlobSound (length h.entries) b) blob (subst (λ (n : ℕ). IsBlobSound n own) number sound);
       same = sym items ∙ ap (λ (b : List ℕ). entries il b) blob ∙ ap (λ (n : ℕ). entries n h.blob) number;
     }
 
@@ -71,7 +71,7 @@ fits h n blob own number is =
     }
 
 -- own bytes keep what a view keeps, and are its header
-pub own_sound : (bytes : List ℕ) → IsOwn bytes → IsSound (number_at w32 bytes 0) bytes
+pub own_sound : (bytes : List ℕ) → IsOwn bytes → IsBlobSound (number_at w32 bytes 0) bytes
     × (header bytes ≡ Ok (record { blob = bytes; entries = entries (number_at w32 bytes 0) bytes }))
 own_sound bytes (h, is, own) =
     let o = opened h (subst (λ (b : List ℕ). header b ≡ Ok h) (sym own) is) in
@@ -81,6 +81,6 @@ own_sound bytes (h, is, own) =
     let first : h ≡ record { blob = bytes; entries = h.entries } = ap (λ (b : List ℕ). record { blob = b; entries = h.entries }) own in
     let whole : h ≡ record { blob = bytes; entries = entries (number_at w32 bytes 0) bytes } = first
     ∙ ap (λ (es : List Item). record { blob = bytes; entries = es }) items in (
-      subst (λ (b : List ℕ). IsSound (number_at w32 bytes 0) b) own (subst (λ (n : ℕ). IsSound n h.blob) number o.sound),
+      subst (λ (b : List ℕ). IsBlobSound (number_at w32 bytes 0) b) own (subst (λ (n : ℕ). IsBlobSound n h.blob) number o.sound),
       is ∙ ap (λ (x : Header). Ok x) whole,
     )

@@ -1,7 +1,7 @@
 -- Texts that a builder keeps are read again from their bytes.
 use Rattle.std.proofs.Common.{◌≡◌, ℕ, ◌^◌, ◌<◌, List, [], ◌∷◌, ◌++◌, length, true, false, None, refl, sym, subst, ap, ◌∙◌, arith}
 use Rattle.std.specs.Prelude.{IsTrue}
-use Rattle.rpm_header.proofs.Vocabulary.{AllByRecursion, bytes_in, element_fault, Form, has_texts, is_region_tag, is_text_list, IsPacked, IsText, joined}
+use Rattle.rpm_header.proofs.Vocabulary.{AllByRecursion, entry_bytes, element_fault, Form, has_texts, is_region_tag, is_text_list, IsPacked, IsText, joined_texts}
 use Rattle.rpm_header.proofs.Vocabulary.{ReadsBack, text_item, Texts, texts, texts_item, values}
 use Rattle.std.proofs.lemmas.List.{append-nil}
 use Rattle.rpm_header.specs.declared.form.Form.TheVariants as form
@@ -21,11 +21,11 @@ values_texts form.Int64 count bytes t = absurd cc
 values_texts form.Bin count bytes t = absurd cc
 
 pub texts_packed : (f : Form) (ts : List (List ℕ)) (count : ℕ) (bytes : List ℕ) → IsTrue (has_texts f) → AllByRecursion IsText ts → count ≡ length ts
-    → bytes ≡ joined ts
+    → bytes ≡ joined_texts ts
     → (values f count bytes ≡ Texts ts) × IsPacked f count bytes
 texts_packed f ts count bytes t each number stored =
     let same : values f count bytes ≡ Texts ts =
-    values_texts f count bytes t ∙ ap Texts (rw (number, stored, ← append-nil (joined ts)) (texts_again ts [] each).0) in
+    values_texts f count bytes t ∙ ap Texts (rw (number, stored, ← append-nil (joined_texts ts)) (texts_again ts [] each).0) in
     (same, record { stored = rw same (sym stored); few = omega (arith, few_texts ts, ap length stored) })
 
 pub list_has_texts : (f : Form) → IsTrue (is_text_list f) → IsTrue (has_texts f)
@@ -41,7 +41,7 @@ list_has_texts form.Int64 t = absurd cc
 list_has_texts form.Bin t = absurd cc
 
 texts_sound : (f : Form) (i : ℕ) (ts : List (List ℕ)) (rest : List ℕ) → IsTrue (is_text_list f) → 0 < length ts → AllByRecursion IsText ts
-    → element_fault f i (length ts) (joined ts ++ rest) ≡ None
+    → element_fault f i (length ts) (joined_texts ts ++ rest) ≡ None
 texts_sound form.Texts i ts rest t some each = rw (not_zero (length ts) some, (texts_again ts rest each).1) refl
 texts_sound form.I18n i ts rest t some each = rw (not_zero (length ts) some, (texts_again ts rest each).1) refl
 texts_sound form.Text i ts rest t some each = absurd cc
@@ -60,18 +60,18 @@ not_null_texts f t e =
 
 pub texts_read_back : (tag : ℕ) (f : Form) (ts : List (List ℕ)) → tag < 2 ^ 32 → is_region_tag tag ≡ false → IsTrue (is_text_list f) → 0 < length ts
     → AllByRecursion IsText ts → ReadsBack (texts_item tag f ts)
-unfolding bytes_in
+unfolding entry_bytes
 texts_read_back tag f ts small region t some each = record {
   tag = small;
   few = few_texts ts;
   no_region = region;
   no_null = not_null_texts f t;
-  again = λ rest. values_texts f (length ts) (joined ts ++ rest) (list_has_texts f t) ∙ ap Texts (texts_again ts rest each).0;
+  again = λ rest. values_texts f (length ts) (joined_texts ts ++ rest) (list_has_texts f t) ∙ ap Texts (texts_again ts rest each).0;
   sound = λ i rest. texts_sound f i ts rest t some each;
 }
 
 pub text_read_back : (tag : ℕ) (text : List ℕ) → tag < 2 ^ 32 → is_region_tag tag ≡ false → IsText text → ReadsBack (text_item tag text)
-unfolding bytes_in
+unfolding entry_bytes
 text_read_back tag text small region one = record {
   tag = small;
   few = few_texts (text ∷ []);

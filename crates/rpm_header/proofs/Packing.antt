@@ -1,7 +1,7 @@
 -- The entries that a builder keeps are read again from their bytes.
 use Rattle.std.proofs.Common.{◌≡◌, ℕ, ◌*◌, ◌^◌, ◌<◌, ◌≤◌, List, [], ◌++◌, length, take, true, false, None, refl, sym, subst, ap, ◌∙◌, length-append, arith, eqb, ne_eqb, le-ltb}
 use Rattle.std.specs.Prelude.{IsTrue}
-use Rattle.rpm_header.proofs.Vocabulary.{alignment, AllFit, bin_item, Bytes, bytes_in, element_fault, flat_map, Form, has_numbers, is_region_tag, IsPacked}
+use Rattle.rpm_header.proofs.Vocabulary.{alignment, AllFit, bin_item, Bytes, entry_bytes, element_fault, flat_map, Form, has_numbers, is_region_tag, IsPacked}
 use Rattle.rpm_header.proofs.Vocabulary.{Item, Numbers, numbers_item, ReadsBack, to_be_bytes, Values, values, width}
 use Rattle.std.proofs.lemmas.List.{append-nil, take_at, take_all}
 use Rattle.rpm_header.specs.declared.form.Form.TheVariants as form
@@ -43,7 +43,7 @@ not_null f t e =
 
 pub numbers_read_back : (tag : ℕ) (f : Form) (ns : List ℕ) → tag < 2 ^ 32 → is_region_tag tag ≡ false → IsTrue (has_numbers f) → 0 < length ns → AllFit f ns
     → ReadsBack (numbers_item tag f ns)
-unfolding bytes_in
+unfolding entry_bytes
 numbers_read_back tag f ns small region t some fit = record {
   tag = small;
   few = few_numbers f ns;
@@ -64,7 +64,7 @@ bin_packed bs count bytes number stored =
     (ap Bytes (same ∙ stored), record { stored = same; few = omega (arith, ap length stored) })
 
 pub bin_read_back : (tag : ℕ) (bs : List ℕ) → tag < 2 ^ 32 → is_region_tag tag ≡ false → 0 < length bs → ReadsBack (bin_item tag bs)
-unfolding bytes_in
+unfolding entry_bytes
 bin_read_back tag bs small region some = record {
   tag = small;
   few = omega arith;

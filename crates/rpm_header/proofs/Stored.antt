@@ -1,8 +1,8 @@
 -- The elements of an entry as a header stores them.
 use Rattle.std.proofs.Common.{◌≡◌, ℕ, zero, suc, ◌+◌, ◌-◌, ◌*◌, ◌≤◌, ◌<◌, List, [], ◌∷◌, ◌++◌, length, take, get_or, Bool, true, false, Some, None, refl, sym, ap, ◌∙◌, append_assoc, length-append, arith}
 use Rattle.std.specs.Prelude.{nat_lt, is_some, if◌then◌else◌}
-use Rattle.rpm_header.proofs.Vocabulary.{after_first, alignment, AllByRecursion, before_first, bytes_in, Form, has_texts, is_zero, IsInside, IsStored, IsText}
-use Rattle.rpm_header.proofs.Vocabulary.{item_at, joined, list_any, position_or_len, Splits, texts, w16, w32, w64, w8}
+use Rattle.rpm_header.proofs.Vocabulary.{after_first, alignment, AllByRecursion, before_first, entry_bytes, Form, has_texts, is_zero, IsInside, IsStored, IsText}
+use Rattle.rpm_header.proofs.Vocabulary.{item_at, joined_texts, list_any, position_or_len, Splits, texts, w16, w32, w64, w8}
 use Rattle.std.proofs.lemmas.Bool.{ltb-true, eqb-true}
 use Rattle.std.proofs.lemmas.List.{take_at, append-nil}
 use Rattle.std.proofs.lemmas.List.Sums.{split_at_first, passes_at_first}
@@ -16,10 +16,10 @@ use Rattle.rpm_header.proofs.StoredNumbers.{AreBytes, fit_numbers, stored_number
 pub record IsPast (count others : ℕ) (bytes rest : List ℕ) : Type 0 where
   pub front : List ℕ
   pub whole : bytes ≡ front ++ rest
-  pub same : front ++ joined (texts others rest) ≡ joined (texts count bytes)
+  pub same : front ++ joined_texts (texts others rest) ≡ joined_texts (texts count bytes)
 
 pub past_none : (count others : ℕ) (bytes : List ℕ) → others ≡ count → IsPast count others bytes bytes
-past_none count others bytes is = record { front = []; whole = refl; same = ap (λ (n : ℕ). joined (texts n bytes)) is }
+past_none count others bytes is = record { front = []; whole = refl; same = ap (λ (n : ℕ). joined_texts (texts n bytes)) is }
 
 is_there : (b : Bool) (n : ℕ) → is_some (if b then Some n else None) ≡ true → b ≡ true
 is_there true n e = refl
@@ -47,15 +47,15 @@ past_more count others next bytes rest first after is s p =
           p.whole ∙ ap (λ (xs : List ℕ). p.front ++ xs) (split ∙ sym (append_assoc first (0 ∷ []) after))
           ∙ sym (append_assoc p.front (first ++ 0 ∷ []) after);
       same =
-          append_assoc p.front (first ++ 0 ∷ []) (joined (texts next after))
-          ∙ sym (ap (λ (ts : List (List ℕ)). p.front ++ joined ts) (texts_next others next rest first after is s)) ∙ p.same;
+          append_assoc p.front (first ++ 0 ∷ []) (joined_texts (texts next after))
+          ∙ sym (ap (λ (ts : List (List ℕ)). p.front ++ joined_texts ts) (texts_next others next rest first after is s)) ∙ p.same;
     }
 
 pub past_all : (count others n : ℕ) (bytes rest : List ℕ) → others ≡ 0 → n ≡ length bytes - length rest → IsPast count others bytes rest
-    → take n bytes ≡ joined (texts count bytes)
+    → take n bytes ≡ joined_texts (texts count bytes)
 past_all count others n bytes rest none is p =
-    let nothing : joined (texts others rest) ≡ [] = ap joined (texts_none others rest none) in
-    let all : p.front ≡ joined (texts count bytes) = sym (append-nil p.front) ∙ sym (ap (λ (xs : List ℕ). p.front ++ xs) nothing) ∙ p.same in
+    let nothing : joined_texts (texts others rest) ≡ [] = ap joined_texts (texts_none others rest none) in
+    let all : p.front ≡ joined_texts (texts count bytes) = sym (append-nil p.front) ∙ sym (ap (λ (xs : List ℕ). p.front ++ xs) nothing) ∙ p.same in
     ap (take n) p.whole ∙ take_at p.front rest n (omega (arith, ap length p.whole, length-append p.front rest)) ∙ all
 
 pub past_within : (count others : ℕ) (bytes rest : List ℕ) → IsPast count others bytes rest → length rest ≤ length bytes
@@ -99,9 +99,9 @@ is_stored tag form.I18n count bytes inside small = record { fit = refl; each = e
 is_stored tag form.Text count bytes inside small = record { fit = refl; each = each_text count bytes; one = λ e. inside.room.2 }
 
 -- and its bytes
-pub bytes_of_texts : (tag : ℕ) (f : Form) (count n : ℕ) (bytes : List ℕ) → has_texts f ≡ true → take n bytes ≡ joined (texts count bytes)
-    → take n bytes ≡ bytes_in (item_at tag f count bytes)
-unfolding bytes_in
+pub bytes_of_texts : (tag : ℕ) (f : Form) (count n : ℕ) (bytes : List ℕ) → has_texts f ≡ true → take n bytes ≡ joined_texts (texts count bytes)
+    → take n bytes ≡ entry_bytes (item_at tag f count bytes)
+unfolding entry_bytes
 bytes_of_texts tag form.Text count n bytes t is = is
 bytes_of_texts tag form.Texts count n bytes t is = is
 bytes_of_texts tag form.I18n count n bytes t is = is
@@ -114,8 +114,8 @@ bytes_of_texts tag form.Int64 count n bytes t is = absurd cc
 bytes_of_texts tag form.Bin count n bytes t is = absurd cc
 
 pub bytes_of_others : (tag : ℕ) (f : Form) (count : ℕ) (bytes : List ℕ) → has_texts f ≡ false → (f ≡ form.Null → ⊥) → IsInside f count bytes
-    → AreBytes bytes → take (count * alignment f) bytes ≡ bytes_in (item_at tag f count bytes)
-unfolding bytes_in
+    → AreBytes bytes → take (count * alignment f) bytes ≡ entry_bytes (item_at tag f count bytes)
+unfolding entry_bytes
 bytes_of_others tag form.Char count bytes t some inside small = sym (stored_numbers w8 writes_8 count bytes inside.room.1 small)
 bytes_of_others tag form.Int8 count bytes t some inside small = sym (stored_numbers w8 writes_8 count bytes inside.room.1 small)
 bytes_of_others tag form.Int16 count bytes t some inside small = sym (stored_numbers w16 writes_16 count bytes inside.room.1 small)

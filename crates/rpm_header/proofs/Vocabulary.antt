@@ -1,29 +1,29 @@
 -- The words of proofs, from one place.
-pub use Rattle.rpm_header.specs.Build.{AllFit, bin_item, is_text_list, IsText, numbers_item, retagged, text_item, texts_item}
+pub use Rattle.rpm_header.specs.Build.{AllFit, bin_item, is_text_list, IsText, numbers_item, with_tag, text_item, texts_item}
 pub use Rattle.rpm_header.specs.Bytes.{each_below, is_zero}
 unfoldable pub use Rattle.rpm_header.specs.Bytes.{are_ended, number_at, numbers, texts}
 pub use Rattle.rpm_header.specs.Digest.{begins_with, magic, region_entries, region_entry, region_in_file}
-unfoldable pub use Rattle.rpm_header.specs.Digest.{immutable_digest, in_file}
+unfoldable pub use Rattle.rpm_header.specs.Digest.{immutable_digest, header_in_file}
 pub use Rattle.rpm_header.specs.Dribbles.{dribbled_data, dribbled_index}
-unfoldable pub use Rattle.rpm_header.specs.Dribbles.{dribbled}
+unfoldable pub use Rattle.rpm_header.specs.Dribbles.{dribbled_blob}
 pub use Rattle.rpm_header.specs.Header.{alignment, Bytes, counts_back, element_fault, first, form_fault, form_of, form_or_null, has_numbers, has_texts}
-pub use Rattle.rpm_header.specs.Header.{Header, index_entry, index_entry_at, is_bad_count, is_region_tag, IsOwn, IsWhole, Item, last_of, Nothing, Numbers}
+pub use Rattle.rpm_header.specs.Header.{Header, index_entry, index_entry_at, is_bad_count, is_region_tag, IsOwn, IsEntryWhole, Item, last_of, Nothing, Numbers}
 pub use Rattle.rpm_header.specs.Header.{numbers_of, region_fault, section_of, Texts, texts_of, unless, Values, values, width}
 unfoldable pub use Rattle.rpm_header.specs.Header.{entries, entry_fault, entry_of, fault_at, header, header_of}
-pub use Rattle.rpm_header.specs.Laid.{blob_of, data_of, end_of, index_of, indexed, joined, kind_of, lengths_of, region_item, trailer, trailer_entry}
+pub use Rattle.rpm_header.specs.Laid.{blob_of, data_of, end_of_data, index_of, entry_in_index, joined_texts, kind_of, lengths_of, region_item, trailer, trailer_entry}
 pub use Rattle.rpm_header.specs.Laid.{with_region}
-unfoldable pub use Rattle.rpm_header.specs.Laid.{bytes_in, data_from, index_bytes, index_from, laid, offset_of}
+unfoldable pub use Rattle.rpm_header.specs.Laid.{entry_bytes, data_from, index_bytes, index_from, laid_out, offset_of}
 pub use Rattle.rpm_header.specs.Parts.{own_data, own_index}
 pub use Rattle.rpm_header.specs.declared.form.Form.{Form}
 pub use Rattle.rpm_header.specs.declared.form.HeaderFault.{HeaderFault}
 pub use Rattle.rpm_header.specs.declared.form.HeaderFault.TheVariants.{BadCount, BadOffset, BadRegion, NoEnd, Short, TooManyEntries, TooMuchData}
 pub use Rattle.rpm_header.specs.declared.index.IndexEntry.{IndexEntry}
 pub use Rattle.rpm_header.specs.declared.laying.Lengths.{Lengths}
-pub use Rattle.rpm_header.specs.inner.Checked.{HasRoom, IsCut, IsInside, IsSound}
-pub use Rattle.rpm_header.specs.inner.Longer.{number_longer}
+pub use Rattle.rpm_header.specs.inner.Checked.{HasElements, IsCutAsSaid, IsInside, IsBlobSound}
+pub use Rattle.rpm_header.specs.laws.Longer.{number_longer}
 pub use Rattle.rpm_header.specs.inner.Packed.{IsJoined, IsPacked, IsStored, item_at, ReadsBack}
 pub use Rattle.rpm_header.specs.inner.Splits.{Splits}
-unfoldable pub use Rattle.rpm_header.specs.inner.Zeros.{skipped, zeros}
+unfoldable pub use Rattle.rpm_header.specs.inner.Zeros.{after_texts, zeros}
 pub use Rattle.sha2.specs.Sha256.{sha256}
 pub use Rattle.std.specs.Int.{byte_len, from_be_bytes, next_multiple_of, to_be_bytes, w16, w32, w64, w8, Width}
 pub use Rattle.std.specs.Int.Count.{count_trailing_zeros, trailing_of_zero}

@@ -38,5 +38,5 @@ abbrev pub bin_item : ℕ → List ℕ → Item
 bin_item tag bytes = record { tag = tag; form = form.Bin; count = length bytes; values = Bytes bytes }
 
 -- an entry under another tag
-abbrev pub retagged : ℕ → Item → Item
-retagged tag e = record { tag = tag; form = e.form; count = e.count; values = e.values }
+abbrev pub with_tag : ℕ → Item → Item
+with_tag tag e = record { tag = tag; form = e.form; count = e.count; values = e.values }

@@ -1,5 +1,6 @@
 -- The digest of the region with which a header begins.
-use Rattle.std.specs.Prelude.{ℕ, ◌+◌, ◌-◌, ◌*◌, ◌/◌, ◌^◌, List, [], ◌∷◌, ◌++◌, take, Bool, false, ◌==◌, if◌then◌else◌, Option, Some, None}
+use Rattle.std.specs.Prelude.{ℕ, ◌+◌, ◌-◌, ◌*◌, ◌/◌, ◌^◌, List, [], ◌∷◌, ◌++◌, take, Bool, false, ◌==◌, if◌then◌else◌}
+use Rattle.std.specs.Prelude.{Option, Some, None}
 use Rattle.std.specs.Int.{w32, to_be_bytes}
 use Rattle.sha2.specs.Sha256.{sha256}
 use Rattle.rpm_header.specs.declared.index.IndexEntry.{IndexEntry}
@@ -27,13 +28,14 @@ abbrev pub region_size : Header → ℕ
 region_size h = (region_entry h).offset + 16
 
 -- a header of so many entries and bytes of data as it stands in files
-unfoldable pub in_file : ℕ → ℕ → List ℕ → List ℕ → List ℕ
-in_file n size index section = magic ++ to_be_bytes w32 n ++ to_be_bytes w32 size ++ index ++ section
+unfoldable pub header_in_file : ℕ → ℕ → List ℕ → List ℕ → List ℕ
+header_in_file n size index section = magic ++ to_be_bytes w32 n ++ to_be_bytes w32 size ++ index ++ section
 
 -- the region as a header of its own
 abbrev pub region_in_file : Header → List ℕ
 region_in_file h =
-    in_file (region_entries h) (region_size h) (take (16 * region_entries h) (own_index h)) (take (region_size h) (own_data h))
+    header_in_file (region_entries h) (region_size h) (take (16 * region_entries h) (own_index h))
+    (take (region_size h) (own_data h))
 
 -- the first entry has this tag
 abbrev pub begins_with : ℕ → List Item → Bool

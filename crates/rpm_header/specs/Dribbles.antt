@@ -13,5 +13,5 @@ abbrev pub dribbled_index : Header → List Item → List ℕ
 dribbled_index h more = own_index h ++ index_from (length (own_data h)) more
 
 -- the bytes of the header with its further entries
-unfoldable pub dribbled : Header → List Item → List ℕ
-dribbled h more = blob_of (length h.entries + length more) (dribbled_index h more) (dribbled_data h more)
+unfoldable pub dribbled_blob : Header → List Item → List ℕ
+dribbled_blob h more = blob_of (length h.entries + length more) (dribbled_index h more) (dribbled_data h more)

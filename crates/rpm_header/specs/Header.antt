@@ -1,12 +1,15 @@
 -- What a header says: its entries, or its first fault.
-use Rattle.std.specs.Prelude.{◌≡◌, ℕ, ◌≤◌, ◌<◌, ◌+◌, ◌*◌, ◌%◌, ◌^◌, List, [], ◌∷◌, length, take, drop, Bool, true, false, not, ◌&&◌, ◌||◌, ◌==◌, nat_lt, if◌then◌else◌, Option, Some, None, Result, Ok, Err, slice_get, All}
+use Rattle.std.specs.Prelude.{◌≡◌, ℕ, ◌≤◌, ◌<◌, ◌+◌, ◌*◌, ◌%◌, ◌^◌, List, [], ◌∷◌, length, take, drop, Bool, true}
+use Rattle.std.specs.Prelude.{false, not, ◌&&◌, ◌||◌, ◌==◌, nat_lt, if◌then◌else◌, Option, Some, None, Result, Ok, Err}
+use Rattle.std.specs.Prelude.{slice_get, All}
 use Rattle.std.specs.Option.{option_or}
 use Rattle.std.specs.List.{list_any, range_with_len}
 use Rattle.std.specs.Int.{Width, w8, w16, w32, w64, byte_len}
 use Rattle.rpm_header.specs.declared.form.Form.{Form}
 use Rattle.rpm_header.specs.declared.form.Form.TheVariants as form
 use Rattle.rpm_header.specs.declared.form.HeaderFault.{HeaderFault}
-use Rattle.rpm_header.specs.declared.form.HeaderFault.TheVariants.{Short, TooManyEntries, TooMuchData, BadType, BadOffset, BadCount, NoEnd, BadRegion}
+use Rattle.rpm_header.specs.declared.form.HeaderFault.TheVariants.{Short, TooManyEntries, TooMuchData, BadType}
+use Rattle.rpm_header.specs.declared.form.HeaderFault.TheVariants.{BadOffset, BadCount, NoEnd, BadRegion}
 use Rattle.rpm_header.specs.declared.index.IndexEntry.{IndexEntry}
 use Rattle.rpm_header.specs.Bytes.{number_at, each_below, numbers, texts, are_ended}
 
@@ -51,9 +54,9 @@ texts_of (Texts ts) = ts
 texts_of _ = []
 
 -- the bytes of an entry that is a Bin, and none of another class
-abbrev pub bytes_of : Values → List ℕ
-bytes_of (Bytes bs) = bs
-bytes_of _ = []
+abbrev pub bin_bytes : Values → List ℕ
+bin_bytes (Bytes bs) = bs
+bin_bytes _ = []
 
 -- a header's own bytes, without what follows them, and its entries
 pub record Header : Type 0 where
@@ -136,7 +139,7 @@ AreBytes count _ = ⊥
 
 -- the elements are of the form's class, the count is how many there are, and no text is longer than
 -- a header's data
-pub record IsWhole (e : Item) : Type 0 where
+pub record IsEntryWhole (e : Item) : Type 0 where
   pub some : (e.form ≡ form.Null → ⊥) → 0 < e.count
   pub nothing : e.form ≡ form.Null → e.values ≡ Nothing
   pub numbers : has_numbers e.form ≡ true → AreNumbers e.count e.values

@@ -7,3 +7,4 @@ pub mod Laid
 pub mod Parts
 pub mod Prelude
 pub mod inner
+pub mod laws

@@ -1,7 +1,7 @@
 //! A header that is being made.
 
 ghost use Rattle.std.specs.Prelude.{◌≡◌, ◌≢◌, ◌++◌, ◌∷◌, [], ◌<◌, ◌≤◌, ◌↔◌, length, false, OnOk, OnErr, IfOk, IsTrue, Ok, List};
-ghost use Rattle.rpm_header.specs.Prelude.{AllByRecursion, AllFit, bin_item, data_of, has_numbers, header, is_region_tag, is_text_list, IsText, Item, laid, lengths_of, max_data, max_entries, numbers_item, ReadsBack, retagged, text_item, texts_item, with_region};
+ghost use Rattle.rpm_header.specs.Prelude.{AllByRecursion, AllFit, bin_item, data_of, has_numbers, header, is_region_tag, is_text_list, IsText, Item, laid_out, lengths_of, max_data, max_entries, numbers_item, ReadsBack, with_tag, text_item, texts_item, with_region};
 
 use crate::entry::Entry;
 use crate::form::Form;
@@ -119,7 +119,7 @@ impl Builder {
     pub fn push_entry(&mut self, tag: u32, entry: &Entry<'_>) -> Result<(), AllocError>
         requires tag { is_region_tag tag ≡ false }
         requires elements { entry.now.form ≢ Form.Null }
-        ensures ok { OnOk result (self.new ≡ self.old ++ retagged tag entry.now ∷ []) }
+        ensures ok { OnOk result (self.new ≡ self.old ++ with_tag tag entry.now ∷ []) }
         ensures err { OnErr result (self.new ≡ self.old) }
     {
         self.push(PackedEntry::stored(self.alloc, tag, entry)?)
@@ -145,7 +145,7 @@ impl Builder {
 
     fn lay_out(&self, alloc: Global, region: bool, lengths: Lengths) -> Result<Vec<u8>, AllocError>
         requires { Ok lengths ≡ lengths_of (length (with_region region self.now)) (length (data_of region self.now)) }
-        ensures laid { IfOk result (λ blob. blob.items ≡ laid region self.now) }
+        ensures laid { IfOk result (λ blob. blob.items ≡ laid_out region self.now) }
         ensures again { IfOk result (λ blob. header blob.items ≡ Ok (record { blob = blob.items; entries = with_region region self.now })) }
     {
         let mut blob = begin(alloc, lengths)?;
@@ -172,7 +172,7 @@ impl Builder {
     /// them. Else `TooMuchData` exactly where there would be more than 67,108,864 bytes of data, with
     /// the trailer. Else `NoMemory` where no memory is found.
     pub fn finish(&self, alloc: Global, region: bool) -> Result<Vec<u8>, BuildFault>
-        ensures laid { IfOk result (λ blob. blob.items ≡ laid region self.now) }
+        ensures laid { IfOk result (λ blob. blob.items ≡ laid_out region self.now) }
         ensures again { IfOk result (λ blob. header blob.items ≡ Ok (record { blob = blob.items; entries = with_region region self.now })) }
         ensures too_many { (result ≡ Err BuildFault.TooManyEntries) ↔ (max_entries < length (with_region region self.now)) }
         ensures too_much { (result ≡ Err BuildFault.TooMuchData)

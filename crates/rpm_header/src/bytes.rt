@@ -1,7 +1,7 @@
 //! Numbers and texts as they stand in bytes.
 
 ghost use Rattle.std.specs.Prelude.{◌≡◌, ◌+◌, ◌≤◌, ◌<◌, length, false, true, is_some, IfSome, MatchOption, slice_get, Some, take};
-ghost use Rattle.rpm_header.specs.Prelude.{are_ended, is_zero, joined, number_at, position, skipped, Splits, texts, w16, w32, w64};
+ghost use Rattle.rpm_header.specs.Prelude.{are_ended, is_zero, joined_texts, number_at, position, after_texts, Splits, texts, w16, w32, w64};
 
 use std::simd::prelude::*;
 
@@ -112,7 +112,7 @@ pub fn text_of(count: u32, bytes: &[u8], i: u32) -> &[u8]
 /// What stands after so many texts that have their zero bytes. Reads the bytes of these texts once.
 pub fn skip_texts(count: u32, bytes: &[u8]) -> &[u8]
     requires { are_ended count bytes.now ≡ true }
-    ensures { result.now ≡ skipped count bytes.now }
+    ensures { result.now ≡ after_texts count bytes.now }
 {
     let mut rest = bytes;
     for _ in 0..count {
@@ -126,7 +126,7 @@ pub fn skip_texts(count: u32, bytes: &[u8]) -> &[u8]
 pub fn texts_end(count: u32, bytes: &[u8]) -> usize
     requires { are_ended count bytes.now ≡ true }
     ensures within { result ≤ length bytes.now }
-    ensures value { take result bytes.now ≡ joined (texts count bytes.now) }
+    ensures value { take result bytes.now ≡ joined_texts (texts count bytes.now) }
 {
     let mut rest = bytes;
     for _ in 0..count {

@@ -1,7 +1,7 @@
 //! The digest of the region with which a header begins.
 
 ghost use Rattle.std.specs.Prelude.{◌≡◌, true};
-ghost use Rattle.rpm_header.specs.Prelude.{begins_with, immutable_digest, in_file, main_region, region_in_file, sha256};
+ghost use Rattle.rpm_header.specs.Prelude.{begins_with, immutable_digest, header_in_file, main_region, region_in_file, sha256};
 
 use crate::MAGIC;
 use crate::index::{MAIN_REGION, index_entry_at};
@@ -11,7 +11,7 @@ use sha2::{Digest, Sha256};
 
 /// The digest of a header of this index and data, with the bytes that stand before it in files.
 fn digest_of(entries: u32, size: u32, index: &[u8], section: &[u8]) -> [u8; 32]
-    ensures { result ≡ sha256 (in_file entries size index.now section.now) }
+    ensures { result ≡ sha256 (header_in_file entries size index.now section.now) }
 {
     let mut hasher = Sha256::new();
     hasher.update(MAGIC.as_slice());

@@ -1,7 +1,7 @@
 //! Entries after those of a header that stands.
 
 ghost use Rattle.std.specs.Prelude.{◌≡◌, ◌+◌, ◌++◌, ◌≤◌, ◌<◌, ◌↔◌, length, IfOk, Ok, Err};
-ghost use Rattle.rpm_header.specs.Prelude.{dribbled, dribbled_data, Header, header, immutable_digest, lengths_of, max_data, max_entries};
+ghost use Rattle.rpm_header.specs.Prelude.{dribbled_blob, dribbled_data, Header, header, immutable_digest, lengths_of, max_data, max_entries};
 
 use crate::builder::Builder;
 use crate::laying::{BuildFault, Lengths, append_data, append_index, begin, lengths_of};
@@ -23,7 +23,7 @@ fn lay_out(
     lengths: Lengths,
 ) -> Result<Vec<u8>, AllocError>
     requires { Ok lengths ≡ lengths_of (length view.now.entries + length extra.now) (length (dribbled_data view.now extra.now)) }
-    ensures laid { IfOk result (λ blob. blob.items ≡ dribbled view.now extra.now) }
+    ensures laid { IfOk result (λ blob. blob.items ≡ dribbled_blob view.now extra.now) }
     ensures again { IfOk result (λ blob. header blob.items ≡ Ok (record { blob = blob.items; entries = view.now.entries ++ extra.now })) }
     ensures digest { IfOk result (λ blob. (read : Header) → header blob.items ≡ Ok read → immutable_digest read ≡ immutable_digest view.now) }
 {
@@ -51,7 +51,7 @@ fn lay_out(
 /// exactly where there would be more than 67,108,864 bytes of data. Else `NoMemory` where no memory
 /// is found.
 pub fn with_dribbles(alloc: Global, view: &View<'_>, extra: &Builder) -> Result<Vec<u8>, BuildFault>
-    ensures laid { IfOk result (λ blob. blob.items ≡ dribbled view.now extra.now) }
+    ensures laid { IfOk result (λ blob. blob.items ≡ dribbled_blob view.now extra.now) }
     ensures again { IfOk result (λ blob. header blob.items ≡ Ok (record { blob = blob.items; entries = view.now.entries ++ extra.now })) }
     ensures digest { IfOk result (λ blob. (read : Header) → header blob.items ≡ Ok read → immutable_digest read ≡ immutable_digest view.now) }
     ensures too_many { (result ≡ Err BuildFault.TooManyEntries) ↔ (max_entries < length view.now.entries + length extra.now) }

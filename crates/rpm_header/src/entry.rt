@@ -1,7 +1,7 @@
 //! One entry of a header, and its elements.
 
 ghost use Rattle.std.specs.Prelude.{◌≡◌, ◌≢◌, ℕ, ◌+◌, ◌*◌, ◌≤◌, ◌<◌, length, IsTrue, Some, slice_get, take, drop, None, List, true};
-ghost use Rattle.rpm_header.specs.Prelude.{are_ended, bytes_in, bytes_of, entry_of, form_fault, has_numbers, has_texts, HasRoom, index_entry, IsInside, IsSound, IsStored, IsWhole, Item, item_at, item_count, numbers_of, section_of, texts, texts_of, values, YieldsFirstRef};
+ghost use Rattle.rpm_header.specs.Prelude.{are_ended, entry_bytes, bin_bytes, entry_of, form_fault, has_numbers, has_texts, HasElements, index_entry, IsInside, IsBlobSound, IsStored, IsEntryWhole, Item, item_at, item_count, numbers_of, section_of, texts, texts_of, values, YieldsFirstRef};
 
 use crate::bytes::{next_text, text_of, texts_end, u16_at, u32_at, u64_at};
 use crate::form::Form;
@@ -46,7 +46,7 @@ impl<'a> Entry<'a> {
     /// The form, which says of which class the elements are: none, numbers, texts or bytes.
     pub fn form(&self) -> Form
         ensures value { result ≡ self.now.form }
-        ensures whole { IsWhole self.now }
+        ensures whole { IsEntryWhole self.now }
     {
         self.form
     }
@@ -55,7 +55,7 @@ impl<'a> Entry<'a> {
     /// `Null`, which has no elements, it is the number that the header stores, any number.
     pub fn count(&self) -> u32
         ensures value { result ≡ self.now.count }
-        ensures whole { IsWhole self.now }
+        ensures whole { IsEntryWhole self.now }
     {
         self.count
     }
@@ -122,7 +122,7 @@ impl<'a> Entry<'a> {
     /// The bytes of a `Bin`, borrowed from the header. Reads none of them.
     pub fn bytes(&self) -> &'a [u8]
         requires { self.now.form ≡ Form.Bin }
-        ensures { result.now ≡ bytes_of self.now.values }
+        ensures { result.now ≡ bin_bytes self.now.values }
     {
         &self.bytes[..self.count as usize]
     }
@@ -130,7 +130,7 @@ impl<'a> Entry<'a> {
     /// The bytes of the elements as the header stores them, texts with their zero bytes. Reads the bytes of texts once.
     pub(crate) fn stored(&self) -> &'a [u8]
         requires { self.now.form ≢ Form.Null }
-        ensures value { result.now ≡ bytes_in self.now }
+        ensures value { result.now ≡ entry_bytes self.now }
         ensures again { IsStored self.now }
     {
         stored_of(self.tag, self.form, self.count, self.bytes)
@@ -175,7 +175,7 @@ impl<'a> Iterator for EntryTexts<'a> {
 fn stored_of<'a>(tag: u32, form: Form, count: u32, bytes: &'a [u8]) -> &'a [u8]
     requires inside { IsInside form count bytes.now }
     requires elements { form ≢ Form.Null }
-    ensures value { result.now ≡ bytes_in (item_at tag form count bytes.now) }
+    ensures value { result.now ≡ entry_bytes (item_at tag form count bytes.now) }
     ensures again { IsStored (item_at tag form count bytes.now) }
 {
     let end = if has_texts(form) {
@@ -190,7 +190,7 @@ fn stored_of<'a>(tag: u32, form: Form, count: u32, bytes: &'a [u8]) -> &'a [u8]
 /// nothing, all of the data.
 fn elements_of<'a>(form: Form, i: u32, entry: IndexEntry, section: &'a [u8]) -> &'a [u8]
     requires { form_fault (Some form) i entry section.now ≡ None }
-    ensures room { HasRoom form entry.count result.now }
+    ensures room { HasElements form entry.count result.now }
     ensures few { length result.now ≤ length section.now }
     ensures elements { values form entry.count result.now ≡ values form entry.count (drop entry.offset section.now) }
 {
@@ -205,7 +205,7 @@ fn elements_of<'a>(form: Form, i: u32, entry: IndexEntry, section: &'a [u8]) -> 
 /// of its data.
 pub fn entry_at<'a>(il: u32, blob: &'a [u8], i: u32) -> Entry<'a>
     requires below { i < il }
-    requires sound { IsSound il blob.now }
+    requires sound { IsBlobSound il blob.now }
     ensures { result ≡ entry_of (index_entry il blob.now i) (section_of il blob.now) }
 {
     let entry = index_entry_at(blob, 8 + 16 * i as usize);

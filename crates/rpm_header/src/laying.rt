@@ -1,7 +1,7 @@
 //! The layout of a header that is made.
 
 ghost use Rattle.std.specs.Prelude.{◌≡◌, true, ◌+◌, ◌-◌, ◌≤◌, ◌<◌, ◌++◌, ◌*◌, ◌^◌, [], replicate, length, OnOk, IfOk, Some, None, nat_lt, if◌then◌else◌};
-ghost use Rattle.rpm_header.specs.Prelude.{alignment, data_from, index_bytes, index_from, indexed, kind_of, lengths_of, max_data, max_entries, next_multiple_of, region_item, to_be_bytes, trailer, w32};
+ghost use Rattle.rpm_header.specs.Prelude.{alignment, data_from, index_bytes, index_from, entry_in_index, kind_of, lengths_of, max_data, max_entries, next_multiple_of, region_item, to_be_bytes, trailer, w32};
 
 use crate::form::Form;
 use crate::index::{IndexEntry, MAIN_REGION, MAX_DATA, MAX_ENTRIES, alignment};
@@ -193,7 +193,7 @@ pub fn append_region_entry(
 ) -> Result<(), AllocError>
     requires { region ≡ true → 16 ≤ lengths.size }
     ensures { OnOk result (out.new.items ≡ out.old.items
-        ++ (if region then index_bytes (indexed (lengths.size - 16) (region_item lengths.entries)) else [])) }
+        ++ (if region then index_bytes (entry_in_index (lengths.size - 16) (region_item lengths.entries)) else [])) }
 {
     if !region {
         return Ok(());

@@ -1,7 +1,7 @@
 //! An entry that is kept until its header is laid out.
 
 ghost use Rattle.std.specs.Prelude.{◌≡◌, ◌≢◌, ◌++◌, ◌∷◌, [], ◌<◌, ◌≤◌, ◌*◌, ◌^◌, length, nat_lt, true, false, OnOk, IfOk, IsTrue};
-ghost use Rattle.rpm_header.specs.Prelude.{AllFit, bin_item, byte_len, bytes_in, has_numbers, is_region_tag, is_text_list, IsPacked, IsText, Item, numbers_item, ReadsBack, retagged, text_item, texts_item, to_be_bytes, values, width};
+ghost use Rattle.rpm_header.specs.Prelude.{AllFit, bin_item, byte_len, entry_bytes, has_numbers, is_region_tag, is_text_list, IsPacked, IsText, Item, numbers_item, ReadsBack, with_tag, text_item, texts_item, to_be_bytes, values, width};
 
 use crate::entry::Entry;
 use crate::form::Form;
@@ -127,7 +127,7 @@ impl PackedEntry {
     pub fn stored(alloc: Global, tag: u32, entry: &Entry<'_>) -> Result<PackedEntry, AllocError>
         requires tag { is_region_tag tag ≡ false }
         requires elements { entry.now.form ≢ Form.Null }
-        ensures value { IfOk result (λ packed. packed ≡ retagged tag entry.now) }
+        ensures value { IfOk result (λ packed. packed ≡ with_tag tag entry.now) }
         ensures again { IfOk result (λ packed. ReadsBack packed) }
     {
         let bytes = Vec::from_slice(alloc, entry.stored())?;
@@ -152,18 +152,18 @@ impl PackedEntry {
     }
 
     /// The number of elements, of which each has a byte at least.
-    #[tactic(auto, unfolding(crate::specs::Laid::bytes_in))]
+    #[tactic(auto, unfolding(crate::specs::Laid::entry_bytes))]
     pub fn count(&self) -> usize
         ensures value { result ≡ self.now.count }
-        ensures few { result ≤ length (bytes_in self.now) }
+        ensures few { result ≤ length (entry_bytes self.now) }
     {
         self.count
     }
 
     /// The elements as a header stores them.
-    #[tactic(auto, unfolding(crate::specs::Laid::bytes_in))]
+    #[tactic(auto, unfolding(crate::specs::Laid::entry_bytes))]
     pub fn bytes(&self) -> &[u8]
-        ensures { result.now ≡ bytes_in self.now }
+        ensures { result.now ≡ entry_bytes self.now }
     {
         &self.bytes
     }

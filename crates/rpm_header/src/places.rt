@@ -1,7 +1,7 @@
 //! Texts by place, in any order.
 
 ghost use Rattle.std.specs.Prelude.{◌≡◌, ℕ, ◌*◌, ◌≤◌, ◌<◌, true, length, Some, is_some, slice_get, slice_index, take, List};
-ghost use Rattle.rpm_header.specs.Prelude.{after_first, are_ended, AreCounted, before_first, is_zero, IsPlaced, max_data, position, skipped, texts, zeros};
+ghost use Rattle.rpm_header.specs.Prelude.{after_first, are_ended, AreCounted, before_first, is_zero, AreTextsPlaced, max_data, position, after_texts, texts, zeros};
 
 use crate::bytes::{next_text, skip_texts};
 use crate::zeros::{between, has_end_near, look_for_ends, pass_blocks, pass_parts, zeros_in};
@@ -47,7 +47,7 @@ impl<'p, 'a> Model for TextPlaces<'p, 'a> {
 
     ghost view = { λ s. texts s.count s.bytes.now };
 
-    ghost invariant = { λ s. IsPlaced s.count s.bytes.now s.stride s.sums.now };
+    ghost invariant = { λ s. AreTextsPlaced s.count s.bytes.now s.stride s.sums.now };
 }
 
 /// A stride of which fewer than 262,143 reach the end of so many bytes.
@@ -100,7 +100,7 @@ fn stride_before(sums: &[u32], count: u32) -> usize
 fn behind<'a>(bytes: &'a [u8], stride: usize, sums: &[u32], count: u32) -> &'a [u8]
     requires counted { AreCounted bytes.now stride sums.now }
     requires ended { count ≤ zeros bytes.now }
-    ensures { result.now ≡ skipped count bytes.now }
+    ensures { result.now ≡ after_texts count bytes.now }
 {
     if count == 0 {
         return bytes;

@@ -1,7 +1,7 @@
 //! A list of texts that is being made.
 
 ghost use Rattle.std.specs.Prelude.{◌≡◌, ℕ, ◌++◌, ◌∷◌, [], ◌≤◌, length, OnOk, OnErr, List};
-ghost use Rattle.rpm_header.specs.Prelude.{AllByRecursion, IsJoined, IsText, joined, texts};
+ghost use Rattle.rpm_header.specs.Prelude.{AllByRecursion, IsJoined, IsText, joined_texts, texts};
 
 use std::alloc::{AllocError, Global};
 use std::marker::Model;
@@ -74,7 +74,7 @@ impl TextList {
 
     /// The texts one after the other, each with its zero byte.
     pub(crate) fn bytes(&self) -> &[u8]
-        ensures value { result.now ≡ joined self.now }
+        ensures value { result.now ≡ joined_texts self.now }
         ensures each { AllByRecursion IsText self.now }
     {
         &self.bytes

@@ -1,7 +1,7 @@
 //! A header that was checked, over its own bytes.
 
 ghost use Rattle.std.specs.Prelude.{◌≡◌, ℕ, ◌+◌, ◌*◌, ◌≤◌, ◌<◌, length, map, Some, None, Ok, IfOk, take, slice_get};
-ghost use Rattle.rpm_header.specs.Prelude.{entries, fault_at, Header, header, header_of, IsCut, IsOwn, IsSound, last_of, max_blob, max_entries};
+ghost use Rattle.rpm_header.specs.Prelude.{entries, fault_at, Header, header, header_of, IsCutAsSaid, IsOwn, IsBlobSound, last_of, max_blob, max_entries};
 
 use crate::bytes::u32_at;
 use crate::ends::{TextEnds, ZeroSums};
@@ -23,7 +23,7 @@ impl<'a> Model for View<'a> {
 
     ghost view = { λ s. record { blob = s.blob.now; entries = entries s.count s.blob.now } };
 
-    ghost invariant = { λ s. IsSound s.count s.blob.now };
+    ghost invariant = { λ s. IsBlobSound s.count s.blob.now };
 }
 
 impl<'a> View<'a> {
@@ -73,7 +73,7 @@ impl<'a> View<'a> {
     }
 
     fn checked(il: u32, blob: &'a [u8]) -> Result<View<'a>, HeaderFault>
-        requires { IsCut il blob.now }
+        requires { IsCutAsSaid il blob.now }
         ensures { result ≡ header_of il blob.now }
     {
         let mut ends = TextEnds::new(section_of(il, blob));
@@ -93,7 +93,7 @@ impl<'a> View<'a> {
     #[cold]
     #[inline(never)]
     fn checked_with_sums(il: u32, blob: &'a [u8], from: u32) -> Result<View<'a>, HeaderFault>
-        requires cut { IsCut il blob.now }
+        requires cut { IsCutAsSaid il blob.now }
         requires earlier { (k : ℕ) → k < from → fault_at il blob.now k ≡ None }
         ensures { result ≡ header_of il blob.now }
     {

@@ -1,7 +1,7 @@
 //! Zero bytes, by which texts end.
 
 ghost use Rattle.std.specs.Prelude.{◌≡◌, ◌+◌, ◌≤◌, ◌<◌, length, take, drop};
-ghost use Rattle.rpm_header.specs.Prelude.{are_ended, max_data, skipped, zeros};
+ghost use Rattle.rpm_header.specs.Prelude.{are_ended, max_data, after_texts, zeros};
 
 use crate::bytes::are_ended;
 use std::simd::prelude::*;
@@ -92,7 +92,7 @@ pub fn has_end_near(bytes: &[u8]) -> bool {
 /// byte in front of it once, 64 at a time.
 pub fn pass_blocks(count: u32, bytes: &[u8]) -> (u32, &[u8])
     requires { count ≤ zeros bytes.now }
-    ensures same { skipped result.0 result.1.now ≡ skipped count bytes.now }
+    ensures same { after_texts result.0 result.1.now ≡ after_texts count bytes.now }
     ensures more { result.0 ≤ zeros result.1.now }
 {
     let mut rest = bytes;
@@ -132,7 +132,7 @@ fn behind_part(bytes: &[u8]) -> &[u8]
 /// for one by one.
 pub fn pass_parts(count: u32, bytes: &[u8]) -> (u32, &[u8])
     requires { count ≤ zeros bytes.now }
-    ensures same { skipped result.0 result.1.now ≡ skipped count bytes.now }
+    ensures same { after_texts result.0 result.1.now ≡ after_texts count bytes.now }
     ensures more { result.0 ≤ zeros result.1.now }
 {
     let mut rest = bytes;

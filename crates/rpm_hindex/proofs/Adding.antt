@@ -3,7 +3,7 @@ use Rattle.std.proofs.Common.{◌≡◌, ℕ, ◌+◌, ◌-◌, ◌*◌, ◌/◌
 use Rattle.std.specs.Prelude.{Option, unwrap_or}
 use Rattle.std.proofs.lemmas.List.{get_or_append_left, get_or-append_right}
 use Rattle.std.proofs.lemmas.Bool.{cases_Bool, cases_eq, cond-true, cond-false, ltb-false, le-ltb}
-use Rattle.rpm_hindex.proofs.Vocabulary.{AddsPadded, AddsRows, blank, bucket_unit, bytes_of, CanGo, Change, changing, Extent, first_record, get, hash_of}
+use Rattle.rpm_hindex.proofs.Vocabulary.{AddsPadded, AddsRows, blank, bucket_unit, bytes_of, CanGo, Change, index_after, Extent, first_record, get, hash_of}
 use Rattle.rpm_hindex.proofs.Vocabulary.{HasWord, Index, index_with, IsWhole, length-cut_up, nat_cmp, places_of, Puts, record_of, record_units, Row, rows_of}
 use Rattle.rpm_hindex.proofs.Vocabulary.{times, times-append, times_none, unit_after, unit_at, Units, units_of, word}
 use Rattle.rpm_hindex.proofs.Wholes.{has_chains}
@@ -79,11 +79,11 @@ pub row_added : (c d : Change) (file : Units) → CanGo c → (kind : ℕ) (key 
     → d.tail.items ≡ c.tail.items ++ bytes_of (record_of next kind key number place) → d.extent ≡ c.extent → d.records ≡ c.records + 1 → d.live
     ≡ c.live + record_units (length key)
     → kind < 16 → length key < 2 ^ 28 → number < 2 ^ 32 → place < 2 ^ 32
-    → IsWhole c.records c.live (changing c file) → AddsRows c d file (record { kind = kind; key = key; number = number; place = place } ∷ [])
+    → IsWhole c.records c.live (index_after c file) → AddsRows c d file (record { kind = kind; key = key; number = number; place = place } ∷ [])
 row_added c d file go kind key number place b u next words w eb below ew eu has put en is extent count live kinds short numbers places whole =
     let B = c.extent.buckets in
     let h = hash_of kind key % B in
-    let old = changing c file in
+    let old = index_after c file in
     let new = index_with B c.extent.used (λ q. get nat_cmp d.units q) d.tail.items file in
     let lower : h < B = omega (arith, eb, below) in
     let put_here = subst (λ (k : ℕ). Puts (λ q. get nat_cmp c.units q) (λ q. get nat_cmp d.units q) (bucket_unit k) w) eb put in
@@ -106,7 +106,7 @@ row_added c d file go kind key number place b u next words w eb below ew eu has 
     } in
     let chains = has_chains old whole.chains in
     let all = whole_more old new kind key number place adds within (places_of old) chains c.records c.live whole in
-    let same : changing d file ≡ new = ap (λ (e : Extent). index_with e.buckets e.used (λ q. get nat_cmp d.units q) d.tail.items file) extent in
+    let same : index_after d file ≡ new = ap (λ (e : Extent). index_with e.buckets e.used (λ q. get nat_cmp d.units q) d.tail.items file) extent in
     record {
       whole = subst (IsWhole d.records d.live) (sym same) (subst (λ (n : ℕ). IsWhole d.records n new) (sym live)
           (subst (λ (n : ℕ). IsWhole n (c.live + record_units (length key)) new) (sym count) all));
@@ -115,16 +115,16 @@ row_added c d file go kind key number place b u next words w eb below ew eu has 
     }
 
 -- no rows more
-pub rows_none : (c : Change) (file : Units) → IsWhole c.records c.live (changing c file) → AddsRows c c file []
-rows_none c file whole = record { whole = whole; rows' = λ r. omega (arith, times_none r); padded = adds_none (changing c file) }
+pub rows_none : (c : Change) (file : Units) → IsWhole c.records c.live (index_after c file) → AddsRows c c file []
+rows_none c file whole = record { whole = whole; rows' = λ r. omega (arith, times_none r); padded = adds_none (index_after c file) }
 
 -- and rows one after the other
-pub rows_then : (c d e : Change) (file : Units) (rows : List Row) (row : Row) → AddsRows c d file rows → (IsWhole d.records d.live (changing d file)
+pub rows_then : (c d e : Change) (file : Units) (rows : List Row) (row : Row) → AddsRows c d file rows → (IsWhole d.records d.live (index_after d file)
     → AddsRows d e file (row ∷ [])) → AddsRows c e file (rows ++ row ∷ [])
 rows_then c d e file rows row first second =
     let more = second first.whole in
     record {
       whole = more.whole;
       rows' = λ r. omega (arith, more.rows' r, first.rows' r, times-append r rows (row ∷ []));
-      padded = adds_then (changing c file) (changing d file) (changing e file) first.padded more.padded;
+      padded = adds_then (index_after c file) (index_after d file) (index_after e file) first.padded more.padded;
     }

@@ -1,7 +1,7 @@
 -- Chains, link by link.
 use Rattle.std.proofs.Common.{◌≡◌, ℕ, zero, suc, ◌+◌, ◌/◌, ◌%◌, ◌^◌, ◌<◌, ◌≤◌, List, [], ◌∷◌, ◌++◌, true, false, cond, eqb, ltb, leb, Result, Ok, Err, refl, sym, ap, ◌∙◌, arith, inl, inr}
 use Rattle.std.proofs.lemmas.Bool.{cases_Bool, cond-true, cond-false, and_parts, eq-eqb, ne_eqb, eqb-true, eqb-false, ltb-true, leb-true, and_from, and_left, and_right}
-use Rattle.rpm_hindex.proofs.Vocabulary.{behind, bucket_of, chain, follow, hash_of, Index, is_link, is_placed, is_sound, key_at, next_at, row_at, units_at}
+use Rattle.rpm_hindex.proofs.Vocabulary.{behind_place, bucket_of, chain, follow, hash_of, Index, is_link, is_placed, is_sound, key_at, next_at, row_at, units_at}
 use Rattle.rpm_hindex.proofs.Vocabulary.{word}
 
 -- what a sound record is
@@ -48,7 +48,7 @@ module _ (x : Index) (b : ℕ) where
   follow_zero zero = refl
   follow_zero (suc n) = refl
 
-  follow_at : (n at : ℕ) → 0 < at → follow x b (suc n) at ≡ cond (is_sound x b at) (behind at (follow x b n (next_at x.unit at))) (Err at)
+  follow_at : (n at : ℕ) → 0 < at → follow x b (suc n) at ≡ cond (is_sound x b at) (behind_place at (follow x b n (next_at x.unit at))) (Err at)
   follow_at n at some = cond-false (eqb at 0) (Ok []) _ (ne_eqb at 0 (λ e. absurd (omega arith)))
 
   -- enough is enough
@@ -69,7 +69,7 @@ module _ (x : Index) (b : ℕ) where
           | inl sound ↦
               let s = sound_parts x b at sound in
               follow_at m at some ∙ cond-true (is_sound x b at) _ _ sound
-              ∙ ap (behind at) (fuel m n (next_at x.unit at) (omega (arith, s.falls)) (omega (arith, s.falls)))
+              ∙ ap (behind_place at) (fuel m n (next_at x.unit at) (omega (arith, s.falls)) (omega (arith, s.falls)))
               ∙ sym (follow_at n at some ∙ cond-true (is_sound x b at) _ _ sound)
           | inr bad ↦
               follow_at m at some ∙ cond-false (is_sound x b at) _ _ bad
@@ -77,12 +77,13 @@ module _ (x : Index) (b : ℕ) where
         ]
   ]
 
-  pub follow_step : (n at : ℕ) → 0 < at → at ≤ n → is_sound x b at ≡ true → follow x b n at ≡ behind at (follow x b (next_at x.unit at) (next_at x.unit at))
+  pub follow_step : (n at : ℕ) → 0 < at → at ≤ n → is_sound x b at ≡ true
+      → follow x b n at ≡ behind_place at (follow x b (next_at x.unit at) (next_at x.unit at))
   follow_step zero at some le sound = absurd (omega arith)
   follow_step (suc n) at some le sound =
       let s = sound_parts x b at sound in
       follow_at n at some ∙ cond-true (is_sound x b at) _ _ sound
-      ∙ ap (behind at) (fuel n (next_at x.unit at) (next_at x.unit at) (omega (arith, s.falls)) (omega arith))
+      ∙ ap (behind_place at) (fuel n (next_at x.unit at) (next_at x.unit at) (omega (arith, s.falls)) (omega arith))
 
   pub follow_bad : (n at : ℕ) → 0 < at → at ≤ n → is_sound x b at ≡ false → follow x b n at ≡ Err at
   follow_bad zero at some le bad = absurd (omega arith)
@@ -99,21 +100,21 @@ module _ (x : Index) (b : ℕ) where
 -- several places in front
 abbrev pub behind_all : List ℕ → Result (List ℕ) ℕ → Result (List ℕ) ℕ
 behind_all [] said = said
-behind_all (p ∷ ps) said = behind p (behind_all ps said)
+behind_all (p ∷ ps) said = behind_place p (behind_all ps said)
 
-pub behind_more : (ps : List ℕ) (p : ℕ) (said : Result (List ℕ) ℕ) → behind_all (ps ++ p ∷ []) said ≡ behind_all ps (behind p said)
+pub behind_more : (ps : List ℕ) (p : ℕ) (said : Result (List ℕ) ℕ) → behind_all (ps ++ p ∷ []) said ≡ behind_all ps (behind_place p said)
 behind_more [] p said = refl
-behind_more (q ∷ ps) p said = ap (behind q) (behind_more ps p said)
+behind_more (q ∷ ps) p said = ap (behind_place q) (behind_more ps p said)
 
 pub behind_ok : (ps qs : List ℕ) → behind_all ps (Ok qs) ≡ Ok (ps ++ qs)
 behind_ok [] qs = refl
-behind_ok (p ∷ ps) qs = ap (behind p) (behind_ok ps qs)
+behind_ok (p ∷ ps) qs = ap (behind_place p) (behind_ok ps qs)
 
 pub behind_err : (ps : List ℕ) (unit : ℕ) → behind_all ps (Err unit) ≡ Err unit
 behind_err [] unit = refl
-behind_err (p ∷ ps) unit = ap (behind p) (behind_err ps unit)
+behind_err (p ∷ ps) unit = ap (behind_place p) (behind_err ps unit)
 
-behind_is_ok : (p : ℕ) (said : Result (List ℕ) ℕ) (places : List ℕ) → behind p said ≡ Ok places → (rest : List ℕ) × (said ≡ Ok rest) × (places ≡ p ∷ rest)
+behind_is_ok : (p : ℕ) (said : Result (List ℕ) ℕ) (places : List ℕ) → behind_place p said ≡ Ok places → (rest : List ℕ) × (said ≡ Ok rest) × (places ≡ p ∷ rest)
 behind_is_ok p (Ok rest) places e = let same : places ≡ p ∷ rest = cc in (rest, refl, same)
 behind_is_ok p (Err unit) places e = absurd (let no' : ⊥ = cc in no')
 

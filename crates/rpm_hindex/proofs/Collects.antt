@@ -1,6 +1,6 @@
 -- A chain that is gone along.
 use Rattle.std.proofs.Common.{◌≡◌, ℕ, ◌+◌, ◌<◌, ◌≤◌, List, [], ◌∷◌, ◌++◌, true, Result, Ok, sym, ap, ◌∙◌, arith, subst}
-use Rattle.rpm_hindex.proofs.Vocabulary.{behind, FindFault, follow, HitsAre, Index, is_sound, IsFaultOf, next_at, sum_by}
+use Rattle.rpm_hindex.proofs.Vocabulary.{behind_place, FindFault, follow, HitsAre, Index, is_sound, IsFaultOf, next_at, sum_by}
 use Rattle.std.proofs.lemmas.List.{append-nil}
 use Rattle.std.proofs.lemmas.List.Sums.{sum_by-append, sum_by-cons}
 use Rattle.rpm_hindex.specs.declared.faults.FindFault.TheVariants.{BadIndex, DiskFault, NoMemory}
@@ -11,7 +11,7 @@ module _ (x : Index) (b from : ℕ) (done : List ℕ) (at : ℕ) (so_far : follo
       (follow x b next next)
   one_more next some sound is =
       so_far
-      ∙ ap (behind_all done) (follow_step x b at at some (omega arith) sound ∙ ap (λ (n : ℕ). behind at (follow x b n n)) (sym is))
+      ∙ ap (behind_all done) (follow_step x b at at some (omega arith) sound ∙ ap (λ (n : ℕ). behind_place at (follow x b n n)) (sym is))
       ∙ sym (behind_more done at (follow x b next next))
 
   pub at_fault : (fault : FindFault) → IsFaultOf (follow x b at at) fault → IsFaultOf (follow x b from from) fault

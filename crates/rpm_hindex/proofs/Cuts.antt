@@ -1,8 +1,8 @@
 -- A change that cuts a record out of its chain.
 use Rattle.std.proofs.Common.{◌≡◌, ℕ, suc, ◌-◌, ◌%◌, ◌<◌, ◌≤◌, List, [], ◌∷◌, ◌++◌, length, Bool, true, false, not, ◌&&◌, cond, ltb, BTreeMap, refl, sym, ap, ◌∙◌, arith, subst, inl, inr}
 use Rattle.std.specs.Prelude.{Option, Some, None, unwrap_or}
-use Rattle.rpm_hindex.proofs.Vocabulary.{all_places, BTreeSet, bucket_of, bucket_unit, CanGo, Change, changing, Contains, contains, Drops, filter}
-use Rattle.rpm_hindex.proofs.Vocabulary.{first_record, get, Head, Index, index_in, is_kept, is_link, IsCut, IsHead, IsLast, IsOpen, IsSpot, IsWellFormed}
+use Rattle.rpm_hindex.proofs.Vocabulary.{all_places, BTreeSet, bucket_of, bucket_unit, CanGo, Change, index_after, Contains, contains, DropOfOne, filter}
+use Rattle.rpm_hindex.proofs.Vocabulary.{first_record, get, Head, Index, index_in, is_kept, is_link, IsWithoutDropped, IsRecordHead, IsLastPlace, HasBuckets, IsSpot, IsWellFormed}
 use Rattle.rpm_hindex.proofs.Vocabulary.{IsWhole, kept_of, nat_cmp, next_at, places_of, Puts, Row, row_at, rows_of, SetsBucket, SetsNext, Spot, Stays, times}
 use Rattle.rpm_hindex.proofs.Vocabulary.{unit_after, unit_at, Units, units_at, units_of, Unlinks, word}
 use Rattle.std.proofs.lemmas.List.{append_assoc}
@@ -19,20 +19,20 @@ use Rattle.rpm_hindex.proofs.Dropping.{filter_in}
 use Rattle.rpm_hindex.proofs.Ways.{first_of, splits}
 use Rattle.rpm_hindex.proofs.Cutting.{but, between, stays_then, first_is, chain_rest, has_cut, whole_cut, rows_kept}
 
-module _ (c : Change) (file : Units) (go : CanGo c) (none : length c.tail.items ≡ 0) (opens : IsOpen c.extent file)
-    (well : IsWellFormed c.extent.buckets file) (cut : IsCut c file)
+module _ (c : Change) (file : Units) (go : CanGo c) (none : length c.tail.items ≡ 0) (opens : HasBuckets c.extent file)
+    (well : IsWellFormed c.extent.buckets file) (cut : IsWithoutDropped c file)
     (units : BTreeMap ℕ (List ℕ)) (dropped : BTreeSet ℕ) (n : ℕ) (b : ℕ) (below : b < c.extent.buckets) where
   abbrev x : Index
   x = index_in c.extent.buckets file
 
   abbrev y : Index
-  y = changing c file
+  y = index_after c file
 
   abbrev d : Change
   d = record { extent = c.extent; units = units; dropped = dropped; tail = c.tail; records = c.records - 1; live = c.live - n }
 
   abbrev z : Index
-  z = changing d file
+  z = index_after d file
 
   abbrev kept : ℕ → Bool
   kept = is_kept (λ p. contains nat_cmp c.dropped p)
@@ -76,7 +76,7 @@ module _ (c : Change) (file : Units) (go : CanGo c) (none : length c.tail.items 
       cond-true (ltb key c.extent.used) (unit_after new file key) (unit_at (units_of c.tail.items) (key - c.extent.used)) (lt-ltb key c.extent.used lt)
       ∙ ap (λ (o : Option (List ℕ)). unwrap_or o (unit_at file key)) put.here
 
-  both : (p : ℕ) → Drops (λ q. contains nat_cmp c.dropped q) (λ q. contains nat_cmp dropped q) p → (q : ℕ) → later q ≡ (kept q && is_other p q)
+  both : (p : ℕ) → DropOfOne (λ q. contains nat_cmp c.dropped q) (λ q. contains nat_cmp dropped q) p → (q : ℕ) → later q ≡ (kept q && is_other p q)
   both p put q = elim (cases_eq q p) [
     | inl same ↦
         let gone : later q ≡ false = ap later same ∙ ap not put.here in
@@ -90,11 +90,11 @@ module _ (c : Change) (file : Units) (go : CanGo c) (none : length c.tail.items 
     and_true false t is = refl
 
   -- whatever is cut
-  finish : (pre : List ℕ) (p : ℕ) (post : List ℕ) → ks b ≡ pre ++ p ∷ post → n ≡ units_at x.unit p → Drops (λ q. contains nat_cmp c.dropped q)
+  finish : (pre : List ℕ) (p : ℕ) (post : List ℕ) → ks b ≡ pre ++ p ∷ post → n ≡ units_at x.unit p → DropOfOne (λ q. contains nat_cmp c.dropped q)
       (λ q. contains nat_cmp dropped q) p
       → ((q : ℕ) → Contains (all_places x) q → Stays x.unit z.unit q) → (is_link z (z.head b) ≡ true) × IsChain z b (z.head b) (pre ++ post)
       → ((a : ℕ) → a < c.extent.buckets → (a ≡ b → ⊥) → z.head a ≡ y.head a)
-      → ((a q : ℕ) → a < c.extent.buckets → (a ≡ b → ⊥) → Contains (ks a) q → next_at z.unit q ≡ next_at y.unit q) → IsCut d file
+      → ((a q : ℕ) → a < c.extent.buckets → (a ≡ b → ⊥) → Contains (ks a) q → next_at z.unit q ≡ next_at y.unit q) → IsWithoutDropped d file
   finish pre p post is size put stays here heads nexts =
       let chains = has_cut x y z refl refl refl kept later hx has cut.stays stays b below pre p post is here heads nexts (both p put) in
       let whole = whole_cut x y z refl refl refl kept later hx has cut.stays stays b below pre p post is here heads nexts (both p put) _ _ c.records
@@ -107,7 +107,7 @@ module _ (c : Change) (file : Units) (go : CanGo c) (none : length c.tail.items 
 
   -- the first of a chain
   first_cut : (p to : ℕ) (post : List ℕ) → ks b ≡ p ∷ post → first_of post ≡ to → SetsBucket file old new b to → n ≡ units_at x.unit p
-      → Drops (λ q. contains nat_cmp c.dropped q) (λ q. contains nat_cmp dropped q) p → IsCut d file
+      → DropOfOne (λ q. contains nat_cmp c.dropped q) (λ q. contains nat_cmp dropped q) p → IsWithoutDropped d file
   first_cut p to post is behind_is sets size put =
       let key = bucket_unit b in
       let behind : (i : ℕ) → first_record c.extent.buckets ≤ i → z.unit i ≡ y.unit i = λ i ge. unit_other key sets.words sets.put i
@@ -145,9 +145,9 @@ module _ (c : Change) (file : Units) (go : CanGo c) (none : length c.tail.items 
       other (sym s.bucket ∙ ap (λ (k : ℕ). bucket_of y.buckets (row_at y.unit k)) e ∙ t.bucket)
 
   -- or one after another
-  later_cut : (pre post : List ℕ) (h : Head) (at to : ℕ) → ks b ≡ pre ++ h.at ∷ at ∷ post → first_of post ≡ to → IsHead x.unit h → SetsNext old new h to
+  later_cut : (pre post : List ℕ) (h : Head) (at to : ℕ) → ks b ≡ pre ++ h.at ∷ at ∷ post → first_of post ≡ to → IsRecordHead x.unit h → SetsNext old new h to
       → n ≡ units_at x.unit at
-      → Drops (λ q. contains nat_cmp c.dropped q) (λ q. contains nat_cmp dropped q) at → IsCut d file
+      → DropOfOne (λ q. contains nat_cmp c.dropped q) (λ q. contains nat_cmp dropped q) at → IsWithoutDropped d file
   later_cut pre post h at to all behind_is is sets size put =
       let from = h.at in
       let w = sets.words in
@@ -195,12 +195,14 @@ module _ (c : Change) (file : Units) (go : CanGo c) (none : length c.tail.items 
       (λ a q lt other m. ap (word 0) (others q (λ e. absurd (elsewhere from mine a q lt other m e))))
 
   pub drop_cuts : (row : Row) (s : Spot) → is_link x (x.head b) ≡ true → IsSpot x b (x.head b) 0 kept row s → Unlinks file old new b s.before s.behind
-      → n ≡ units_at x.unit s.at → Drops (λ q. contains nat_cmp c.dropped q) (λ q. contains nat_cmp dropped q) s.at → IsCut d file
+      → n ≡ units_at x.unit s.at → DropOfOne (λ q. contains nat_cmp c.dropped q) (λ q. contains nat_cmp dropped q) s.at → IsWithoutDropped d file
   drop_cuts row s link is sets size put =
       let t = splits x b kept row s link (chain_are x b (well.chains b below)) is in
       by_before s.before t.before s.at s.behind t.after t.are t.next t.last sets size put where
-        by_before : (o : Option Head) (front : List ℕ) (at to : ℕ) (after : List ℕ) → ks b ≡ front ++ at ∷ after → first_of after ≡ to → IsLast x.unit front o
-            → Unlinks file old new b o to → n ≡ units_at x.unit at → Drops (λ q. contains nat_cmp c.dropped q) (λ q. contains nat_cmp dropped q) at → IsCut d
+        by_before : (o : Option Head) (front : List ℕ) (at to : ℕ) (after : List ℕ) → ks b ≡ front ++ at ∷ after → first_of after ≡ to
+            → IsLastPlace x.unit front o
+            → Unlinks file old new b o to → n ≡ units_at x.unit at → DropOfOne (λ q. contains nat_cmp c.dropped q) (λ q. contains nat_cmp dropped q) at
+            → IsWithoutDropped d
             file
         by_before None front at to after are next none sets size put =
             first_cut at to after (are ∙ ap (λ (ps : List ℕ). ps ++ at ∷ after) none) next sets size put
@@ -208,10 +210,10 @@ module _ (c : Change) (file : Units) (go : CanGo c) (none : length c.tail.items 
             later_cut pre after h at to (are ∙ ap (λ (ps : List ℕ). ps ++ at ∷ after) is ∙ append_assoc pre (h.at ∷ []) (at ∷ after)) next head sets size put
 
 -- what is left of the rows
-pub rows_cut : (c : Change) (file : Units) → length c.tail.items ≡ 0 → IsOpen c.extent file → IsWellFormed c.extent.buckets file → IsCut c file
-    → (r : Row) → times r (rows_of (changing c file)) ≡ times r (kept_of (index_in c.extent.buckets file) (is_kept (λ p. contains nat_cmp c.dropped p)))
+pub rows_cut : (c : Change) (file : Units) → length c.tail.items ≡ 0 → HasBuckets c.extent file → IsWellFormed c.extent.buckets file → IsWithoutDropped c file
+    → (r : Row) → times r (rows_of (index_after c file)) ≡ times r (kept_of (index_in c.extent.buckets file) (is_kept (λ p. contains nat_cmp c.dropped p)))
 rows_cut c file none opens well cut r =
-    let y : Index = changing c file in
+    let y : Index = index_after c file in
     let x : Index = index_in c.extent.buckets file in
     rows_kept x y (is_kept (λ p. contains nat_cmp c.dropped p)) refl (has_chains x well.chains) (λ a lt. let h = has_chains y cut.whole.chains a lt in
     (h.0, subst (IsChain y a (y.head a)) (cut.chains a lt) h.1)) cut.stays r

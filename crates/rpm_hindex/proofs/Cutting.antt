@@ -1,7 +1,7 @@
 -- A record is cut out of its chain.
 use Rattle.std.proofs.Common.{◌≡◌, ℕ, ◌+◌, ◌-◌, ◌/◌, ◌%◌, ◌^◌, ◌<◌, ◌≤◌, List, [], ◌∷◌, ◌++◌, take, map, Bool, true, ◌&&◌, cond, refl, sym, ap, ◌∙◌, arith, subst}
 use Rattle.rpm_hindex.proofs.Vocabulary.{all_places, bytes_of, Contains, filter, flat_map, Index, is_link, IsWhole, kept_of, key_at, key_units, length_at}
-use Rattle.rpm_hindex.proofs.Vocabulary.{next_at, places_of, range_with_len, Row, row_at, rows_of, run, Stays, sum_by, times, Units, units_at, word}
+use Rattle.rpm_hindex.proofs.Vocabulary.{next_at, places_of, range_with_len, Row, row_at, rows_of, units_from, Stays, sum_by, times, Units, units_at, word}
 use Rattle.rpm_hindex.specs.Rows.{same_row as same_rows}
 use Rattle.rpm_hindex.proofs.Runs.{run_same}
 use Rattle.rpm_hindex.proofs.FollowedLinks.{IsChain}
@@ -23,7 +23,7 @@ but x y q s =
     let sizes : length_at v q ≡ length_at u q = ap (λ (n : ℕ). n % 2 ^ 28) s.size in
     let n = key_units (length_at u q) in
     let keys : key_at v q ≡ key_at u q =
-    ap (λ (m : ℕ). take m (bytes_of (run v (q + 1) (key_units m)))) sizes
+    ap (λ (m : ℕ). take m (bytes_of (units_from v (q + 1) (key_units m)))) sizes
     ∙ ap (λ (us : Units). take (length_at u q) (bytes_of us)) (run_same v u (q + 1) n (λ i ge lt. s.key i (omega arith) (omega arith))) in
     let f : ℕ → List ℕ → ℕ → ℕ → Row = λ a k m p. record { kind = a / 2 ^ 28; key = k; number = m; place = p } in
     record {

@@ -1,6 +1,6 @@
 -- A row is dropped.
 use Rattle.std.proofs.Common.{◌≡◌, ℕ, zero, suc, ◌<◌, List, [], ◌∷◌, length, Bool, true, false, not, Result, Ok, Err, refl, sym, ap, ◌∙◌, arith, subst, inl, inr}
-use Rattle.rpm_hindex.proofs.Vocabulary.{bucket_of, chain, Contains, Drops, filter, HasLess, HasNone, HitsAre, Index, is_kept, is_link, IsSpot, IsWhole}
+use Rattle.rpm_hindex.proofs.Vocabulary.{bucket_of, chain, Contains, DropOfOne, filter, HasLess, HasNone, HitsAre, Index, is_kept, is_link, IsSpot, IsWhole}
 use Rattle.rpm_hindex.proofs.Vocabulary.{kept_of, places_in, places_of, record_units, Row, row_at, same_is, Spot, units_at}
 use Rattle.std.proofs.lemmas.List.Elements.{Contains-append_right}
 use Rattle.std.proofs.lemmas.Bool.{cases_Bool, cond-true, cond-false}
@@ -58,7 +58,7 @@ module _ (x : Index) (count live : ℕ) (whole : IsWhole count live x) (row : Ro
       none q (subst (λ (ps : List ℕ). Contains ps q) same (subst (λ (n : ℕ). Contains (places_of x n) q) (sym mine) c)) stays))
 
   -- there is one
-  pub drops_one : (s : Spot) (new : ℕ → Bool) → is_link x (x.head b) ≡ true → IsSpot x b (x.head b) 0 (is_kept dropped) row s → Drops dropped new s.at
+  pub drops_one : (s : Spot) (new : ℕ → Bool) → is_link x (x.head b) ≡ true → IsSpot x b (x.head b) 0 (is_kept dropped) row s → DropOfOne dropped new s.at
       → HasLess (row ∷ []) (kept_of x (is_kept dropped)) (kept_of x (is_kept new))
   drops_one s new link is put =
       let q = spot_in x b (is_kept dropped) row s link said is in

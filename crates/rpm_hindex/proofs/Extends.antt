@@ -1,7 +1,7 @@
 -- An index that has another's records, where they stand, and maybe more after them.
 use Rattle.std.proofs.Common.{◌≡◌, ℕ, zero, suc, ◌+◌, ◌/◌, ◌%◌, ◌^◌, ◌<◌, ◌≤◌, List, [], ◌∷◌, length, map, take, true, ltb, leb, refl, sym, ap, ◌∙◌, arith, subst, inl, inr}
 use Rattle.rpm_hindex.proofs.Vocabulary.{all_places, bucket_of, bytes_of, Contains, first_record, flat_map, Index, is_link, is_placed, is_sound, IsWhole}
-use Rattle.rpm_hindex.proofs.Vocabulary.{key_at, key_units, length_at, next_at, places_of, range_with_len, Row, row_at, rows_of, run, sum_by, Units, units_at}
+use Rattle.rpm_hindex.proofs.Vocabulary.{key_at, key_units, length_at, next_at, places_of, range_with_len, Row, row_at, rows_of, units_from, sum_by, Units, units_at}
 use Rattle.rpm_hindex.proofs.Vocabulary.{word}
 use Rattle.std.proofs.lemmas.Bool.{and_from, eq-eqb, lt-ltb, le-leb, cases_eq}
 use Rattle.rpm_hindex.proofs.Runs.{run_same}
@@ -51,7 +51,7 @@ row_same u v p same =
     let f : List ℕ → List ℕ → Row = λ w k. record { kind = word 1 w / 2 ^ 28; key = k; number = word 2 w; place = word 3 w } in
     let n = key_units (length_at u p) in
     let keys : key_at v p ≡ key_at u p =
-    ap (λ (m : ℕ). take m (bytes_of (run v (p + 1) (key_units m)))) (length_same u v p here)
+    ap (λ (m : ℕ). take m (bytes_of (units_from v (p + 1) (key_units m)))) (length_same u v p here)
     ∙ ap (λ (us : Units). take (length_at u p) (bytes_of us)) (run_same v u (p + 1) n (λ i ge lt. same i (omega arith) (omega arith))) in
     ap (λ (w : List ℕ). f w (key_at v p)) here ∙ ap (f (u p)) keys
 

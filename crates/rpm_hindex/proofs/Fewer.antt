@@ -1,6 +1,6 @@
 -- Rows that are among others need no more units, and so do those that a change keeps.
 use Rattle.std.proofs.Common.{◌≡◌, ℕ, zero, suc, ◌+◌, ◌*◌, ◌≤◌, ◌<◌, ◌++◌, List, [], ◌∷◌, length, leb, Bool, reverse, arith, inl, inr}
-use Rattle.rpm_hindex.proofs.Vocabulary.{all_places, bucket_count, doubled, Index, InPlace, IsScratchOf, kept_of, live_of, once, reach_with, record_units}
+use Rattle.rpm_hindex.proofs.Vocabulary.{all_places, bucket_count, doubled_buckets, Index, InPlace, IsScratchOf, kept_of, live_of, once, reach_with, record_units}
 use Rattle.rpm_hindex.proofs.Vocabulary.{Row, rows_of, Scratch, sum_by, times, times-append, times-cons, units_after, units_for, without, Work}
 use Rattle.std.proofs.lemmas.Bool.{cases_lt, cond-true, cond-false, le-leb, lt-leb}
 use Rattle.std.proofs.lemmas.List.Sums.{sum_by-cons}
@@ -20,24 +20,24 @@ pub live_less : (few many : List Row) → ((r : Row) → times r few ≤ times r
 unfolding live_of
 live_less few many less = sum_less (λ (r : Row). record_units (length r.key)) few many less
 
-at_least : (n b r : ℕ) → b ≤ doubled n b r
+at_least : (n b r : ℕ) → b ≤ doubled_buckets n b r
 at_least zero b r = omega arith
 at_least (suc n) b r = elim (cases_lt (2 * b) r) [
-  | inl more ↦ omega (arith, cond-false (leb r (2 * b)) b (doubled n (2 * b) r) (lt-leb r (2 * b) more), at_least n (2 * b) r)
-  | inr done ↦ omega (arith, cond-true (leb r (2 * b)) b (doubled n (2 * b) r) (le-leb r (2 * b) done))
+  | inl more ↦ omega (arith, cond-false (leb r (2 * b)) b (doubled_buckets n (2 * b) r) (lt-leb r (2 * b) more), at_least n (2 * b) r)
+  | inr done ↦ omega (arith, cond-true (leb r (2 * b)) b (doubled_buckets n (2 * b) r) (le-leb r (2 * b) done))
 ]
 
-doubled_less : (n m b q r : ℕ) → 0 < b → q ≤ r → r ≤ 2 * b + m → doubled n b q ≤ doubled m b r
+doubled_less : (n m b q r : ℕ) → 0 < b → q ≤ r → r ≤ 2 * b + m → doubled_buckets n b q ≤ doubled_buckets m b r
 doubled_less zero m b q r some le enough = at_least m b r
 doubled_less (suc n) zero b q r some le enough =
-    omega (arith, cond-true (leb q (2 * b)) b (doubled n (2 * b) q) (le-leb q (2 * b) (omega (arith, le, enough))))
+    omega (arith, cond-true (leb q (2 * b)) b (doubled_buckets n (2 * b) q) (le-leb q (2 * b) (omega (arith, le, enough))))
 doubled_less (suc n) (suc m) b q r some le enough = elim (cases_lt (2 * b) q) [
-  | inr done ↦ omega (arith, cond-true (leb q (2 * b)) b (doubled n (2 * b) q) (le-leb q (2 * b) done), at_least (suc m) b r)
+  | inr done ↦ omega (arith, cond-true (leb q (2 * b)) b (doubled_buckets n (2 * b) q) (le-leb q (2 * b) done), at_least (suc m) b r)
   | inl more ↦
       omega (
         arith,
-        cond-false (leb q (2 * b)) b (doubled n (2 * b) q) (lt-leb q (2 * b) more),
-        cond-false (leb r (2 * b)) b (doubled m (2 * b) r) (lt-leb r (2 * b) (omega (arith, more, le))),
+        cond-false (leb q (2 * b)) b (doubled_buckets n (2 * b) q) (lt-leb q (2 * b) more),
+        cond-false (leb r (2 * b)) b (doubled_buckets m (2 * b) r) (lt-leb r (2 * b) (omega (arith, more, le))),
         doubled_less n m (2 * b) q r (omega (arith, some)) le (omega (arith, enough, some)),
       )
 ]

@@ -2,7 +2,7 @@
 use Rattle.std.specs.Prelude.{◌≡◌, ℕ, ◌+◌, ◌≤◌, ◌<◌, List, [], ◌∷◌, ◌++◌, length, refl, replicate, Bool, ◌||◌, nat_le, true, false, Ok, Err, IsOk, is_ok}
 use Rattle.rpm_hindex.proofs.Vocabulary.{all_places, blank, bucket_count, chain, Contains, hash_of, Index, index_in, index_units, is_bucket_count, is_current}
 use Rattle.rpm_hindex.proofs.Vocabulary.{is_in_order, is_ordered, is_sound, IsWellFormed, list_all, places_of, range_with_len, records, Row, row_at, rows_of}
-use Rattle.rpm_hindex.proofs.Vocabulary.{sealed, state_of, sum_by, unit_at, Units, units_at, word}
+use Rattle.rpm_hindex.proofs.Vocabulary.{sealed, opened_state, sum_by, unit_at, Units, units_at, word}
 use Rattle.std.proofs.Common.{inl, inr, sym, ap, ◌∙◌, arith}
 use Rattle.std.proofs.lemmas.Bool.{cases_Bool, false≢true, leb-true, or_cases}
 use Rattle.std.proofs.lemmas.List.Elements.{at_from_Contains}
@@ -60,16 +60,16 @@ sealed_at : sealed (unit_at whole 0) ≡ 2
 unfolding whole file seal word
 sealed_at = refl
 
-current : is_current 2 (state_of whole) ≡ true
+current : is_current 2 (opened_state whole) ≡ true
 unfolding whole file seal counts words head letter blank word is_current is_in_order is_ordered is_bucket_count
 current = refl
 
-another_generation : is_current 1 (state_of whole) ≡ false
+another_generation : is_current 1 (opened_state whole) ≡ false
 unfolding whole file seal counts words head letter blank word is_current is_in_order is_ordered is_bucket_count
 another_generation = refl
 
 -- a file without units is sealed at 0, and isn't current there
-blank_file : is_current 0 (state_of []) ≡ false
+blank_file : is_current 0 (opened_state []) ≡ false
 unfolding blank word is_current is_in_order is_ordered is_bucket_count
 blank_file = refl
 

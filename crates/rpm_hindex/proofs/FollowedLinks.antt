@@ -1,6 +1,6 @@
 -- A chain as a relation: its places, each naming the next.
 use Rattle.std.proofs.Common.{◌≡◌, ℕ, zero, suc, ◌+◌, ◌/◌, ◌<◌, ◌≤◌, List, [], ◌∷◌, true, eqb, ltb, leb, Ok, Err, refl, sym, ap, ◌∙◌, arith, subst, inl, inr}
-use Rattle.rpm_hindex.proofs.Vocabulary.{behind, chain, Contains, first_record, follow, Index, is_link, is_sound, next_at}
+use Rattle.rpm_hindex.proofs.Vocabulary.{behind_place, chain, Contains, first_record, follow, Index, is_link, is_sound, next_at}
 use Rattle.std.proofs.lemmas.Bool.{cases_Bool, and_parts, eqb-true, ltb-true, leb-true, or_cases, cases_eq, and_from, or_right, lt-ltb, le-leb}
 use Rattle.rpm_hindex.proofs.Chains.{sound_parts, follow_step, follow_is_ok, fuel, chain_from, chain_bad}
 
@@ -56,7 +56,7 @@ module _ (x : Index) (b : ℕ) where
   follow_of_chain at (p ∷ ps) (is, some, sound, rest) =
       ap (λ (k : ℕ). follow x b k k) is
       ∙ follow_step x b p p some (omega arith) sound
-      ∙ ap (behind p) (follow_of_chain (next_at x.unit p) ps rest)
+      ∙ ap (behind_place p) (follow_of_chain (next_at x.unit p) ps rest)
 
   pub chain_ok : (ps : List ℕ) → chain x b ≡ Ok ps → (is_link x (x.head b) ≡ true) × IsChain (x.head b) ps
   chain_ok ps e = elim (cases_Bool (is_link x (x.head b))) [

@@ -2,8 +2,8 @@
 use Rattle.std.proofs.Common.{◌≡◌, ℕ, zero, suc, ◌+◌, ◌/◌, length, List, [], ◌∷◌, ◌++◌, map, Bool, cond, refl, sym, ap, ◌∙◌, arith, subst, inl, inr}
 use Rattle.std.specs.Prelude.{Vec}
 use Rattle.rpm_hindex.proofs.Vocabulary.{ArePadded, BadIndex, blank, bucket_count, chain, Change, DiskFault, EndsInZero, filter, flat_map, Global, HasLess}
-use Rattle.rpm_hindex.proofs.Vocabulary.{HitsAre, Holds, Index, index_in, IndexFull, InPlace, IsMade, IsOther, IsPaddedPlan, IsPlanFor, IsScratchOf}
-use Rattle.rpm_hindex.proofs.Vocabulary.{IsSizedFor, IsTooLarge, IsTooLargeFor, IsWorkOf, kept_below, NoMemory, places_of, PrepareFault, put, range_with_len}
+use Rattle.rpm_hindex.proofs.Vocabulary.{HitsAre, HasDraftUnits, Index, index_in, IndexFull, InPlace, IsIndexMade, IsOther, IsPaddedPlan, IsPlanFor, IsScratchOf}
+use Rattle.rpm_hindex.proofs.Vocabulary.{IsSizedFor, IsTooLarge, IsTooLargeFor, IsWorkOf, kept_below, NoMemory, places_of, PrepareFault, with_units, range_with_len}
 use Rattle.rpm_hindex.proofs.Vocabulary.{ReachesFor, records, Row, row_at, SameRows, Scratch, second_after, times, times-append, Units, units_after}
 use Rattle.rpm_hindex.proofs.Vocabulary.{units_for, units_of, word, word_3, Work}
 use Rattle.std.proofs.lemmas.Bool.{cases_Bool, cond-true, cond-false}
@@ -59,9 +59,9 @@ pub scratch_plan : (drops adds kept : List Row) (buckets : ℕ) (file : Units) (
 unfolding IsPlanFor
 scratch_plan drops adds kept buckets file (InPlace p) is less = absurd is
 scratch_plan drops adds kept buckets file (Scratch image) (count, made) less =
-    let new = put 1 (units_of image.bytes.items) (put 0 (blank ∷ []) file) in
-    let held : Holds (units_of image.bytes.items) new = image_held image.bytes.items (put 0 (blank ∷ []) file) new refl in
-    let here = subst (λ (n : ℕ). IsMade (kept ++ adds) n new) (sym count) (made.made new held) in
+    let new = with_units 1 (units_of image.bytes.items) (with_units 0 (blank ∷ []) file) in
+    let held : HasDraftUnits (units_of image.bytes.items) new = image_held image.bytes.items (with_units 0 (blank ∷ []) file) new refl in
+    let here = subst (λ (n : ℕ). IsIndexMade (kept ++ adds) n new) (sym count) (made.made new held) in
     record { whole = here.whole; rows = λ r. here.same r ∙ times-append r kept adds ∙ ap (λ (n : ℕ). n + times r adds) (less r) }
 
 -- and its records are padded
@@ -69,8 +69,8 @@ pub scratch_padded : (rows : List Row) (buckets : ℕ) (file : Units) (work : Wo
 unfolding IsPaddedPlan
 scratch_padded rows buckets file (InPlace p) is = absurd is
 scratch_padded rows buckets file (Scratch image) (count, made) =
-    let old = put 0 (blank ∷ []) file in
-    let new = put 1 (units_of image.bytes.items) old in
+    let old = with_units 0 (blank ∷ []) file in
+    let new = with_units 1 (units_of image.bytes.items) old in
     subst (λ (n : ℕ). ArePadded (index_in n new)) (sym count) (made.made new (image_held image.bytes.items old new refl)).padded
 
 -- ---- faults

@@ -1,8 +1,8 @@
 -- The rows that a change has dropped, and what unit 1 counts of them.
 use Rattle.std.proofs.Common.{◌≡◌, ℕ, ◌+◌, ◌<◌, ◌≤◌, List, [], ◌∷◌, ◌++◌, length, drop, Bool, true, false, not, cond, refl, sym, ap, ◌∙◌, arith, subst, inl, inr, length-append}
 use Rattle.std.specs.Prelude.{is_ok, IsOk, ◌⊎◌}
-use Rattle.rpm_hindex.proofs.Vocabulary.{all_places, BadIndex, chain, Change, Contains, contains, CountsLess, DiskFault, Drops, DropsMore, HasGone, if_kept}
-use Rattle.rpm_hindex.proofs.Vocabulary.{Index, index_in, IndexFull, is_kept, IsBadFor, IsChainFault, IsDropFault, IsFresh, IsShort, kept_in, live-append}
+use Rattle.rpm_hindex.proofs.Vocabulary.{all_places, BadIndex, chain, Change, Contains, contains, CountsLess, DiskFault, DropOfOne, DropsMore, HasGone, if_kept}
+use Rattle.rpm_hindex.proofs.Vocabulary.{Index, index_in, IndexFull, is_kept, IsBadFor, IsChainFault, IsDropFault, IsFreshChange, IsShort, kept_in, live-append}
 use Rattle.rpm_hindex.proofs.Vocabulary.{live_of, nat_cmp, NoMemory, places_of, PrepareFault, record_units, Row, row_at, same_row, sum_by, times}
 use Rattle.rpm_hindex.proofs.Vocabulary.{times-append, times_none, times_one, Units}
 use Rattle.std.proofs.lemmas.Bool.{false≢true}
@@ -45,7 +45,7 @@ module _ (x : Index) (has : HasChains x (places_of x)) (row : Row) (c : Change) 
     more = elim why [ inl zeros ↦ inl (omega (arith, zeros)) | inr less ↦ inr (omega (arith, less, long, live_one row)) ];
   }
 
-  pub gone_one : (d : Change) → Drops (λ q. contains nat_cmp c.dropped q) (λ q. contains nat_cmp d.dropped q) p → d.records + 1 ≡ c.records
+  pub gone_one : (d : Change) → DropOfOne (λ q. contains nat_cmp c.dropped q) (λ q. contains nat_cmp d.dropped q) p → d.records + 1 ≡ c.records
       → d.live + record_units (length row.key) ≡ c.live → HasGone (row ∷ []) c d x
   gone_one d put count units =
       let later : ℕ → Bool = is_kept (λ q. contains nat_cmp d.dropped q) in
@@ -114,7 +114,7 @@ short_chain drops c x b (IndexFull needed) ok is = tt
 short_chain drops c x b DiskFault ok is = tt
 short_chain drops c x b NoMemory ok is = tt
 
-drops_counted : (drops : List Row) (c : Change) (file : Units) → IsFresh c file → CountsLess drops c (index_in c.extent.buckets file)
+drops_counted : (drops : List Row) (c : Change) (file : Units) → IsFreshChange c file → CountsLess drops c (index_in c.extent.buckets file)
     → DropsMore drops c.extent.buckets file
 drops_counted drops c file fresh less = record {
   gone = less.gone;
@@ -124,7 +124,7 @@ drops_counted drops c file fresh less = record {
 }
 
 -- unit 1 counts too little
-pub bad_for : (drops : List Row) (c : Change) (file : Units) (e : PrepareFault) → e ≡ BadIndex 1 → IsFresh c file
+pub bad_for : (drops : List Row) (c : Change) (file : Units) (e : PrepareFault) → e ≡ BadIndex 1 → IsFreshChange c file
     → IsShort drops c (index_in c.extent.buckets file) e → IsBadFor drops c.extent.buckets file e
 bad_for drops c file e is fresh short = subst (IsBadFor drops c.extent.buckets file) (sym is)
     (inr (refl, drops_counted drops c file fresh (subst (IsShort drops c (index_in c.extent.buckets file)) is short)))

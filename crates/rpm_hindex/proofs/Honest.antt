@@ -1,9 +1,9 @@
 -- What a fault of a change says of the index.
 use Rattle.std.proofs.Common.{◌≡◌, ℕ, zero, suc, ◌+◌, ◌-◌, ◌/◌, ◌%◌, ◌<◌, ◌≤◌, List, [], ◌∷◌, length, Bool, true, false, not, cond, BTreeMap, Vec, Global, Result, Ok, Err, refl, sym, ap, ◌∙◌, arith, subst, inl, inr}
 use Rattle.std.specs.Prelude.{Option, None, Some, unwrap_or, is_ok, IsOk, ◌⊎◌}
-use Rattle.rpm_hindex.proofs.Vocabulary.{all_places, BadIndex, BTreeSet, bucket_unit, CanGo, chain, Change, changing, Contains, contains, DiskFault, Drops}
+use Rattle.rpm_hindex.proofs.Vocabulary.{all_places, BadIndex, BTreeSet, bucket_unit, CanGo, chain, Change, index_after, Contains, contains, DiskFault, DropOfOne}
 use Rattle.rpm_hindex.proofs.Vocabulary.{first_record, get, HasNoFault, HasWord, Head, HitsAre, HoldsMore, if_kept, Index, index_in, IndexFull, is_kept}
-use Rattle.rpm_hindex.proofs.Vocabulary.{is_link, IsBad, IsBadFor, IsBadSoFar, IsChainFault, IsFaulty, IsFront, IsHonest, IsLinked, IsOpen, IsSpot}
+use Rattle.rpm_hindex.proofs.Vocabulary.{is_link, IsBad, IsBadFor, IsBadSoFar, IsChainFault, IsFaulty, IsFront, IsHonest, IsLinked, HasBuckets, IsSpot}
 use Rattle.rpm_hindex.proofs.Vocabulary.{IsWellFormed, IsWithout, nat_cmp, NoMemory, places_of, PrepareFault, Puts, record_units, Row, SetsBucket, Spot}
 use Rattle.rpm_hindex.proofs.Vocabulary.{sum_by, unit_after, unit_at, Units, units_at, Unlinks, word}
 use Rattle.std.proofs.lemmas.List.Sums.{sum_by-cons}
@@ -127,7 +127,7 @@ link_more y z at same more link = elim (cases_eq at 0) [
       link_at z at (subst (λ (n : ℕ). first_record n ≤ at) (sym same) (behind_front y at link some)) (omega (arith, within y at link some, more))
 ]
 
-module _ (c : Change) (file : Units) (go : CanGo c) (opens : IsOpen c.extent file) (b : ℕ) (below : b < c.extent.buckets) (row : Row) (s : Spot)
+module _ (c : Change) (file : Units) (go : CanGo c) (opens : HasBuckets c.extent file) (b : ℕ) (below : b < c.extent.buckets) (row : Row) (s : Spot)
     (link : is_link (index_in c.extent.buckets file) ((index_in c.extent.buckets file).head b) ≡ true)
     (is : HasNoFault (index_in c.extent.buckets file) → IsSpot (index_in c.extent.buckets file) b ((index_in c.extent.buckets file).head b) 0
     (is_kept (λ p. contains nat_cmp c.dropped p)) row s) (linked : IsLinked c.extent.buckets c.extent.used (Some s)) (honest : IsHonest c file) where
@@ -135,7 +135,7 @@ module _ (c : Change) (file : Units) (go : CanGo c) (opens : IsOpen c.extent fil
   x = index_in c.extent.buckets file
 
   abbrev y : Index
-  y = changing c file
+  y = index_after c file
 
   abbrev kept : ℕ → Bool
   kept = is_kept (λ p. contains nat_cmp c.dropped p)
@@ -169,7 +169,7 @@ module _ (c : Change) (file : Units) (go : CanGo c) (opens : IsOpen c.extent fil
     d = record { extent = c.extent; units = units; dropped = dropped; tail = c.tail; records = c.records - 1; live = c.live - n }
 
     abbrev z : Index
-    z = changing d file
+    z = index_after d file
 
     abbrev later : ℕ → Bool
     later = is_kept (λ p. contains nat_cmp dropped p)
@@ -208,7 +208,7 @@ module _ (c : Change) (file : Units) (go : CanGo c) (opens : IsOpen c.extent fil
         (sets.put.others (bucket_unit a) (λ e. absurd (omega (arith, e, low, in', go.fours)))))
 
     pub drops_honest : Unlinks file (λ q. get nat_cmp c.units q) (λ q. get nat_cmp units q) b s.before s.behind → n ≡ record_units (length row.key)
-        → Drops (λ q. contains nat_cmp c.dropped q) (λ q. contains nat_cmp dropped q) s.at → 0 < c.records → n ≤ c.live → IsHonest d file
+        → DropOfOne (λ q. contains nat_cmp c.dropped q) (λ q. contains nat_cmp dropped q) s.at → 0 < c.records → n ≤ c.live → IsHonest d file
     drops_honest sets long put some enough =
         let gone : later s.at ≡ false = ap not put.here in
         let others : (q : ℕ) → (q ≡ s.at → ⊥) → later q ≡ kept q = λ q other. ap not (put.others q other) in
@@ -234,11 +234,11 @@ module _ (c : Change) (file : Units) (go : CanGo c) (opens : IsOpen c.extent fil
 -- ---- a row is added
 
 -- a bucket's word that is no link is as it was
-pub bad_head : (c : Change) (file : Units) → IsOpen c.extent file → IsHonest c file → (b next : ℕ) → b < c.extent.buckets → next
-    ≡ (changing c file).head b → is_link (changing c file) next ≡ false → IsFaulty c.extent.buckets file (BadIndex (2 + b / 4))
+pub bad_head : (c : Change) (file : Units) → HasBuckets c.extent file → IsHonest c file → (b next : ℕ) → b < c.extent.buckets → next
+    ≡ (index_after c file).head b → is_link (index_after c file) next ≡ false → IsFaulty c.extent.buckets file (BadIndex (2 + b / 4))
 bad_head c file opens honest b next below is no' =
     let x : Index = index_in c.extent.buckets file in
-    let y : Index = changing c file in
+    let y : Index = index_after c file in
     let wrong : is_link y (y.head b) ≡ false = ap (is_link y) (sym is) ∙ no' in
     elim (honest.heads b below) [
       | inl link ↦ absurd (false≢true (sym wrong ∙ link))
@@ -257,8 +257,8 @@ module _ (c : Change) (file : Units) (go : CanGo c) (b : ℕ) (below : b < c.ext
       → Puts (λ q. get nat_cmp c.units q) (λ q. get nat_cmp units q) (bucket_unit b) w → length c.tail.items / 16 < length tail.items / 16
       → IsHonest c file → IsHonest added file
   adds_honest words w u words_are u_is has put longer honest =
-      let y : Index = changing c file in
-      let z : Index = changing added file in
+      let y : Index = index_after c file in
+      let z : Index = index_after added file in
       let key = bucket_unit b in
       let now : unit_after (λ q. get nat_cmp units q) file key ≡ w = ap (λ (o : Option (List ℕ)). unwrap_or o (unit_at file key)) put.here in
       let as_was : (a : ℕ) → a < c.extent.buckets → z.head a ≡ y.head a → (is_link z (z.head a) ≡ true)

@@ -1,7 +1,7 @@
 -- A draft whose bucket words are put in front, as it is read from a file.
 use Rattle.std.proofs.Common.{◌≡◌, ℕ, zero, suc, ◌+◌, ◌-◌, ◌*◌, ◌/◌, ◌%◌, ◌^◌, ◌<◌, ◌≤◌, List, [], ◌∷◌, ◌++◌, length, take, drop, get_or, true, refl, sym, ap, ◌∙◌, arith, subst, inl, inr, length-append, length-drop}
-use Rattle.rpm_hindex.proofs.Vocabulary.{bytes_of_word, draft_index, first_record, flat_map, from_le_bytes, Holds, Index, index_in, is_bucket_count, IsDraft}
-use Rattle.rpm_hindex.proofs.Vocabulary.{IsImage, IsMade, IsWhole, length-cut_up, length-unit, live_of, places_of, Row, times, unit_at, unit_at-cut_up}
+use Rattle.rpm_hindex.proofs.Vocabulary.{bytes_of_word, draft_index, first_record, flat_map, from_le_bytes, HasDraftUnits, Index, index_in, is_bucket_count, IsDraft}
+use Rattle.rpm_hindex.proofs.Vocabulary.{IsDraftOf, IsIndexMade, IsWhole, length-cut_up, length-unit, live_of, places_of, Row, times, unit_at, unit_at-cut_up}
 use Rattle.rpm_hindex.proofs.Vocabulary.{unit_of_words, Units, units_of, w32, word, word_0, word_1, word_2, word_3}
 use Rattle.std.proofs.lemmas.List.{get_or_append_left, get_or-append_right, get_or-take, get_or-drop, drop-drop, drop_at, take_at, take-append-le}
 use Rattle.std.proofs.lemmas.Nat.{from_le_bytes-to_le_bytes_4}
@@ -140,7 +140,7 @@ module _ (rows : List Row) (buckets : ℕ) (heads bytes second all : List ℕ)
       ∙ ap (λ (k : ℕ). get_or (flat_map bytes_of_word heads) k 0) at
       ∙ words_at heads b i (omega (arith, many)) l) small
 
-  module _ (file : Units) (holds : Holds (units_of all) file) where
+  module _ (file : Units) (holds : HasDraftUnits (units_of all) file) where
     x : Index
     x = draft_index heads bytes
 
@@ -179,7 +179,7 @@ module _ (rows : List Row) (buckets : ℕ) (heads bytes second all : List ℕ)
           ∙ rest_unit (i - 1) (omega (arith, from, many)) (omega (arith, to, from));
     }
 
-    pub made : IsMade rows buckets file
+    pub made : IsIndexMade rows buckets file
     made =
         let whole = whole_same (draft_index heads bytes) (index_in buckets file) extends heads_are (length rows) (live_of rows) draft.whole in
         let one : word 1 (unit_at file 1) ≡ length rows = ap (word 1) (front_unit ∙ counts) ∙ word_1 _ _ _ _ few_rows in
@@ -194,7 +194,7 @@ module _ (rows : List Row) (buckets : ℕ) (heads bytes second all : List ℕ)
               extends heads_are (places_of (draft_index heads bytes)) (has_chains (draft_index heads bytes) draft.whole.chains));
         }
 
-  pub image_made : IsImage rows buckets all
+  pub image_made : IsDraftOf rows buckets all
   image_made = record {
     whole_units = omega (arith, length_all, long);
     long = omega (arith, length_all, long);

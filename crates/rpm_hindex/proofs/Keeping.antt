@@ -1,11 +1,10 @@
 -- The rows of the places that are kept.
-use Rattle.std.proofs.Common.{◌≡◌, ℕ, zero, suc, ◌+◌, ◌<◌, ◌≤◌, List, [], ◌∷◌, ◌++◌, map, reverse, Bool, true, false, cond, eqb, sym, ap, ◌∙◌, arith, subst, inl, inr}
-use Rattle.rpm_hindex.proofs.Vocabulary.{all_places, bucket_of, bytes_eq, Contains, filter, flat_map, HasLess, Index, kept_of, next_at, places_of}
+use Rattle.std.proofs.Common.{◌≡◌, ℕ, zero, suc, ◌+◌, ◌<◌, ◌≤◌, List, [], ◌∷◌, ◌++◌, map, reverse, Bool, true, false, cond, sym, ap, ◌∙◌, arith, subst, inl, inr}
+use Rattle.rpm_hindex.proofs.Vocabulary.{all_places, bucket_of, Contains, filter, flat_map, HasLess, Index, kept_of, next_at, places_of}
 use Rattle.rpm_hindex.proofs.Vocabulary.{range_with_len, Row, row_at, rows_of, same_is, sum_by, times, times-append, times_none, times_one}
 use Rattle.std.proofs.lemmas.List.Sums.{sum_by-cons}
 use Rattle.std.proofs.lemmas.List.Sorted.{sum_by-IsPermutation, IsPermutation-reverse}
-use Rattle.std.proofs.lemmas.Bool.{cases_Bool, cond-true, cond-false, and_parts, eqb-true}
-use Rattle.std.proofs.lemmas.Slice.Eq.{bytes_eq-Decides}
+use Rattle.std.proofs.lemmas.Bool.{cases_Bool, cond-true, cond-false}
 use Rattle.rpm_hindex.specs.Rows.{same_row as same_rows}
 use Rattle.rpm_hindex.proofs.Chains.{sound_parts}
 use Rattle.rpm_hindex.proofs.FollowedLinks.{IsChain}

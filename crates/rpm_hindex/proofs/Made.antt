@@ -1,7 +1,7 @@
 -- A record that was made, as it is read.
 use Rattle.std.proofs.Common.{◌≡◌, ℕ, zero, suc, ◌+◌, ◌-◌, ◌*◌, ◌/◌, ◌%◌, ◌^◌, ◌<◌, ◌≤◌, List, [], ◌∷◌, ◌++◌, length, take, drop, refl, sym, ap, ◌∙◌, arith, subst, length-append, length-drop, zero-add}
 use Rattle.rpm_hindex.proofs.Vocabulary.{All, bytes_of, bytes_of-cut_up, cut_up, IsPadded, key_at, key_units, length-cut_up, length-unit, length_at, next_at}
-use Rattle.rpm_hindex.proofs.Vocabulary.{padding, past_key, record_of, record_units, Row, row_at, run, unit_at, unit_of_words, Units, units_of, word, word_0}
+use Rattle.rpm_hindex.proofs.Vocabulary.{key_padding, past_key, record_of, record_units, Row, row_at, units_from, unit_at, unit_of_words, Units, units_of, word, word_0}
 use Rattle.rpm_hindex.proofs.Vocabulary.{word_1, word_2, word_3}
 use Rattle.std.proofs.lemmas.List.{nil_from_length, length-replicate, take-append-le, take_all, take_at, drop_at, drop-append-le}
 use Rattle.std.proofs.lemmas.List.Elements.{All-replicate}
@@ -21,11 +21,11 @@ cut_up-append (suc n) m a b long =
     ∙ ap (λ (bs : List ℕ). take 16 a ∷ cut_up (n + m) bs) (drop-append-le 16 a b sixteen)
     ∙ ap (λ (us : Units). take 16 a ∷ us) (cut_up-append n m (drop 16 a) b rest)
 
-pub run_of : (u : ℕ → List ℕ) (at : ℕ) (us : Units) → ((j : ℕ) → j < length us → u (at + j) ≡ unit_at us j) → run u at (length us) ≡ us
+pub run_of : (u : ℕ → List ℕ) (at : ℕ) (us : Units) → ((j : ℕ) → j < length us → u (at + j) ≡ unit_at us j) → units_from u at (length us) ≡ us
 run_of u at [] same = refl
 run_of u at (x ∷ us) same =
     let here : at ≡ at + 0 = omega arith in
-    ap (λ (y : List ℕ). y ∷ run u (at + 1) (length us)) (ap u here ∙ same 0 (omega arith))
+    ap (λ (y : List ℕ). y ∷ units_from u (at + 1) (length us)) (ap u here ∙ same 0 (omega arith))
     ∙ ap (λ (ys : Units). x ∷ ys) (run_of u (at + 1) us (λ j lt. let e : at + 1 + j ≡ at + suc j = omega arith in ap u e ∙ same (suc j) (omega arith)))
 
 module _ (next kind : ℕ) (key : List ℕ) (number place : ℕ) where
@@ -39,10 +39,10 @@ module _ (next kind : ℕ) (key : List ℕ) (number place : ℕ) where
   head = unit_of_words next (kind * 2 ^ 28 + length key) number place
 
   abbrev padded : List ℕ
-  padded = key ++ padding (length key)
+  padded = key ++ key_padding (length key)
 
   pub length-padded : length padded ≡ 16 * key_units (length key)
-  length-padded = omega (arith, length-append key (padding (length key)), length-replicate {A = ℕ} (16 * key_units (length key) - length key) 0)
+  length-padded = omega (arith, length-append key (key_padding (length key)), length-replicate {A = ℕ} (16 * key_units (length key) - length key) 0)
 
   pub length-made : length made ≡ record_units (length key)
   unfolding record_of
@@ -98,26 +98,26 @@ module _ (next kind : ℕ) (key : List ℕ) (number place : ℕ) where
     pub made_size : length_at u at ≡ length key
     made_size = ap (λ (n : ℕ). n % 2 ^ 28) packed ∙ mod-mul-add kind (2 ^ 28) (length key) short
 
-    made_bytes : bytes_of (run u (at + 1) (key_units (length key))) ≡ padded
+    made_bytes : bytes_of (units_from u (at + 1) (key_units (length key))) ≡ padded
     made_bytes =
         let n = key_units (length key) in
         let us : Units = cut_up n padded in
         let long : length us ≡ n = length-cut_up n padded in
-        let all : run u (at + 1) n ≡ us = ap (run u (at + 1)) (sym long) ∙ run_of u (at + 1) us (λ j lt. let e : at + 1 + j ≡ at + (1 + j) = omega
+        let all : units_from u (at + 1) n ≡ us = ap (units_from u (at + 1)) (sym long) ∙ run_of u (at + 1) us (λ j lt. let e : at + 1 + j ≡ at + (1 + j) = omega
         arith in ap u e ∙ stands (1 + j) (omega arith) ∙ made_rest j) in
         ap bytes_of all ∙ bytes_of-cut_up n padded length-padded
 
     made_key : key_at u at ≡ key
     made_key =
-        ap (λ (k : ℕ). take k (bytes_of (run u (at + 1) (key_units k)))) made_size
+        ap (λ (k : ℕ). take k (bytes_of (units_from u (at + 1) (key_units k)))) made_size
         ∙ ap (take (length key)) made_bytes
-        ∙ take_at key (padding (length key)) (length key) refl
+        ∙ take_at key (key_padding (length key)) (length key) refl
 
-    made_past : past_key u at ≡ padding (length key)
+    made_past : past_key u at ≡ key_padding (length key)
     made_past =
-        ap (λ (k : ℕ). drop k (bytes_of (run u (at + 1) (key_units k)))) made_size
+        ap (λ (k : ℕ). drop k (bytes_of (units_from u (at + 1) (key_units k)))) made_size
         ∙ ap (drop (length key)) made_bytes
-        ∙ drop_at key (padding (length key)) (length key) refl
+        ∙ drop_at key (key_padding (length key)) (length key) refl
 
     pub made_padded : IsPadded u at
     made_padded = subst (All (λ (b : ℕ). b ≡ 0)) (sym made_past) (All-replicate (λ (b : ℕ). b ≡ 0) (16 * key_units (length key) - length key) 0 refl)

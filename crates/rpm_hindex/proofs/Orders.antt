@@ -1,7 +1,7 @@
 -- What it says that the first two units are in order.
 use Rattle.std.proofs.Common.{◌≡◌, ℕ, ◌+◌, ◌-◌, ◌*◌, ◌%◌, ◌^◌, ◌<◌, ◌≤◌, List, min, true, eqb, leb, sym, ap, ◌∙◌, arith, subst}
-use Rattle.rpm_hindex.proofs.Vocabulary.{buckets_of, Extent, first_record, is_bucket_count, is_headed, is_in_order, is_ordered, IsOpen, Keeps, range_with_len}
-use Rattle.rpm_hindex.proofs.Vocabulary.{State, Units, word}
+use Rattle.rpm_hindex.proofs.Vocabulary.{buckets_of, Extent, first_record, is_bucket_count, is_headed, is_in_order, is_ordered, HasBuckets, KeepsIndexValue, range_with_len}
+use Rattle.rpm_hindex.proofs.Vocabulary.{IndexState, Units, word}
 use Rattle.std.proofs.lemmas.Bool.{and_parts, eqb-true, leb-true}
 use Rattle.std.proofs.lemmas.List.Folds.{Any-from_list_any}
 use Rattle.std.proofs.lemmas.List.FromFn.{get_or-range_with_len, length-range_with_len}
@@ -68,14 +68,14 @@ few buckets e =
     let p = powers c.k c.below in
     record { some = omega (arith, c.is, p.0); most = omega (arith, c.is, p.1); fours = omega (arith, c.is) }
 
-pub order_parts : (s : State) → is_in_order s ≡ true → (is_headed s.first ≡ true) × (is_ordered (buckets_of s.first) s.second s.units ≡ true)
+pub order_parts : (s : IndexState) → is_in_order s ≡ true → (is_headed s.first ≡ true) × (is_ordered (buckets_of s.first) s.second s.units ≡ true)
 unfolding is_in_order
 order_parts s e = and_parts (is_headed s.first) (is_ordered (buckets_of s.first) s.second s.units) e
 
-pub open_from : (s : State) (file : Units) → is_in_order s ≡ true → Keeps file s → let e : Extent = record {
+pub open_from : (s : IndexState) (file : Units) → is_in_order s ≡ true → KeepsIndexValue file s → let e : Extent = record {
   buckets = word 3 s.first;
   used = word 0 s.second;
-} in IsOpen e file
+} in HasBuckets e file
 open_from s file order keeps =
     let o = ordered_parts (buckets_of s.first) s.second s.units (order_parts s order).1 in
     record {
@@ -86,7 +86,7 @@ open_from s file order keeps =
     }
 
 -- what suits the first two units, of the extent that they give
-pub record Started (s : State) (e : Extent) : Type 0 where
+pub record Started (s : IndexState) (e : Extent) : Type 0 where
   pub fours : e.buckets % 4 ≡ 0
   pub some : 0 < e.buckets
   pub few : e.buckets ≤ 2 ^ 27
@@ -97,7 +97,7 @@ pub record Started (s : State) (e : Extent) : Type 0 where
   pub fits : e.used ≤ s.units
   pub count : is_bucket_count e.buckets ≡ true
 
-pub started : (s : State) (e : Extent) → is_in_order s ≡ true → e ≡ record { buckets = word 3 s.first; used = word 0 s.second } → Started s e
+pub started : (s : IndexState) (e : Extent) → is_in_order s ≡ true → e ≡ record { buckets = word 3 s.first; used = word 0 s.second } → Started s e
 started s e order is =
     let o = ordered_parts (buckets_of s.first) s.second s.units (order_parts s order).1 in
     let f = few (buckets_of s.first) o.count in

@@ -5,9 +5,9 @@ use Rattle.std.proofs.lemmas.Grind.{reverse_onto}
 use Rattle.std.proofs.lemmas.List.Sorted.{sum_by-IsPermutation, IsPermutation-reverse}
 use Rattle.std.proofs.lemmas.List.Sums.{sum_by_push}
 use Rattle.std.proofs.lemmas.Bool.{cases_lt}
-use Rattle.rpm_hindex.proofs.Vocabulary.{IsPacked, live_of, no_head, no_row, record_units, Row, row_in, row_nth, RowHead, rows_in}
+use Rattle.rpm_hindex.proofs.Vocabulary.{AreKeysPacked, live_of, no_head, no_row, record_units, Row, row_in, row_nth, RowHead, packed_rows}
 
-pub packed_none : IsPacked [] [] 0
+pub packed_none : AreKeysPacked [] [] 0
 unfolding live_of
 packed_none = record {
   within = λ i lt. absurd (omega arith);
@@ -27,13 +27,13 @@ same_row_in keys key h le =
     ap (λ (bs : List ℕ). let r : Row = record { kind = h.kind; key = bs; number = h.number; place = h.place } in r) is
 
 same_rows_in : (keys key : List ℕ) (hs : List RowHead) → ((i : ℕ) → i < length hs → (get_or hs i no_head).start + (get_or hs i no_head).length
-    ≤ length keys) → rows_in (keys ++ key) hs ≡ rows_in keys hs
+    ≤ length keys) → packed_rows (keys ++ key) hs ≡ packed_rows keys hs
 same_rows_in keys key [] within = refl
 same_rows_in keys key (h ∷ hs) within =
-    ap (λ (r : Row). r ∷ rows_in (keys ++ key) hs) (same_row_in keys key h (within 0 (omega arith)))
+    ap (λ (r : Row). r ∷ packed_rows (keys ++ key) hs) (same_row_in keys key h (within 0 (omega arith)))
     ∙ ap (λ (rs : List Row). row_in keys h ∷ rs) (same_rows_in keys key hs (λ i lt. within (suc i) (omega arith)))
 
-module _ (heads : List RowHead) (keys key : List ℕ) (live : ℕ) (h : RowHead) (packed : IsPacked heads keys live) (start : h.start ≡ length keys)
+module _ (heads : List RowHead) (keys key : List ℕ) (live : ℕ) (h : RowHead) (packed : AreKeysPacked heads keys live) (start : h.start ≡ length keys)
     (long : h.length ≡ length key) where
   abbrev row : Row
   row = record { kind = h.kind; key = key; number = h.number; place = h.place }
@@ -44,11 +44,11 @@ module _ (heads : List RowHead) (keys key : List ℕ) (live : ℕ) (h : RowHead)
       ∙ take_all h.length key (omega arith) in
       ap (λ (bs : List ℕ). let r : Row = record { kind = h.kind; key = bs; number = h.number; place = h.place } in r) is
 
-  pub rows_more : rows_in (keys ++ key) (heads ++ h ∷ []) ≡ rows_in keys heads ++ row ∷ []
+  pub rows_more : packed_rows (keys ++ key) (heads ++ h ∷ []) ≡ packed_rows keys heads ++ row ∷ []
   rows_more =
       map-append (row_in (keys ++ key)) heads (h ∷ [])
       ∙ ap (λ (rs : List Row). rs ++ row_in (keys ++ key) h ∷ []) (same_rows_in keys key heads packed.within)
-      ∙ ap (λ (r : Row). rows_in keys heads ++ r ∷ []) new_row
+      ∙ ap (λ (r : Row). packed_rows keys heads ++ r ∷ []) new_row
 
   each_more : (P : RowHead → Type 0) → ((i : ℕ) → i < length heads → P (get_or heads i no_head)) → P h → (i : ℕ) → i < length (heads ++ h ∷ [])
       → P (get_or (heads ++ h ∷ []) i no_head)
@@ -57,7 +57,7 @@ module _ (heads : List RowHead) (keys key : List ℕ) (live : ℕ) (h : RowHead)
     | inr past ↦ subst P (sym (get_or_push heads h no_head i (omega (arith, length_push heads h)))) new
   ]
 
-  pub packed_more : h.kind < 16 → h.length < 2 ^ 28 → live + record_units h.length ≤ 2 ^ 60 → IsPacked (heads ++ h ∷ []) (keys ++ key)
+  pub packed_more : h.kind < 16 → h.length < 2 ^ 28 → live + record_units h.length ≤ 2 ^ 60 → AreKeysPacked (heads ++ h ∷ []) (keys ++ key)
       (live + record_units h.length)
   unfolding live_of
   packed_more kind short most = record {
@@ -69,8 +69,8 @@ module _ (heads : List RowHead) (keys key : List ℕ) (live : ℕ) (h : RowHead)
     short = each_more (λ (g : RowHead). g.length < 2 ^ 28) packed.short short;
     kinds = each_more (λ (g : RowHead). g.kind < 16) packed.kinds kind;
     units =
-        let n : live ≡ live_of (rows_in keys heads) = packed.units in
-        let m = sum_by_push (λ (r : Row). record_units (length r.key)) (rows_in keys heads) row in
+        let n : live ≡ live_of (packed_rows keys heads) = packed.units in
+        let m = sum_by_push (λ (r : Row). record_units (length r.key)) (packed_rows keys heads) row in
         let l = ap record_units long in
         omega (arith, n, l, m) ∙ sym (ap live_of rows_more);
     most = most;
@@ -79,13 +79,13 @@ module _ (heads : List RowHead) (keys key : List ℕ) (live : ℕ) (h : RowHead)
 
 -- ---- the rows turned round
 
-pub rows_reversed : (keys : List ℕ) (heads : List RowHead) → rows_in keys (reverse heads) ≡ reverse (rows_in keys heads)
+pub rows_reversed : (keys : List ℕ) (heads : List RowHead) → packed_rows keys (reverse heads) ≡ reverse (packed_rows keys heads)
 rows_reversed keys [] = refl
 rows_reversed keys (h ∷ hs) =
-    ap (rows_in keys) (reverse_onto hs h [])
+    ap (packed_rows keys) (reverse_onto hs h [])
     ∙ map-append (row_in keys) (reverse hs) (h ∷ [])
     ∙ ap (λ (rs : List Row). rs ++ row_in keys h ∷ []) (rows_reversed keys hs)
-    ∙ sym (reverse_onto (rows_in keys hs) (row_in keys h) [])
+    ∙ sym (reverse_onto (packed_rows keys hs) (row_in keys h) [])
 
 each_reversed : (P : RowHead → Type 0) (heads : List RowHead) → ((i : ℕ) → i < length heads → P (get_or heads i no_head)) → (i : ℕ)
     → i < length (reverse heads) → P (get_or (reverse heads) i no_head)
@@ -93,14 +93,14 @@ each_reversed P heads old i lt =
     let below : i < length heads = omega (arith, length-reverse heads, lt) in
     subst P (sym (get_or-reverse heads i no_head below)) (old (length heads - 1 - i) (omega (arith, below)))
 
-pub packed_reversed : (heads : List RowHead) (keys : List ℕ) (live : ℕ) → IsPacked heads keys live → IsPacked (reverse heads) keys live
+pub packed_reversed : (heads : List RowHead) (keys : List ℕ) (live : ℕ) → AreKeysPacked heads keys live → AreKeysPacked (reverse heads) keys live
 unfolding live_of
 packed_reversed heads keys live packed = record {
   within = each_reversed (λ (g : RowHead). g.start + g.length ≤ length keys) heads packed.within;
   short = each_reversed (λ (g : RowHead). g.length < 2 ^ 28) heads packed.short;
   kinds = each_reversed (λ (g : RowHead). g.kind < 16) heads packed.kinds;
   units =
-      let rows = rows_in keys heads in
+      let rows = packed_rows keys heads in
       let same = sum_by-IsPermutation (λ (r : Row). record_units (length r.key)) rows (reverse rows) (IsPermutation-reverse rows) in
       packed.units ∙ sym same ∙ sym (ap live_of (rows_reversed keys heads));
   most = packed.most;
@@ -117,7 +117,7 @@ pub record IsHeadOf (keys : List ℕ) (row : Row) (h : RowHead) : Type 0 where
   pub short : h.length < 2 ^ 28
   pub kinds : h.kind < 16
 
-pub head_is : (heads : List RowHead) (keys : List ℕ) (live : ℕ) → IsPacked heads keys live → (rows : List Row) → rows_in keys heads ≡ rows
+pub head_is : (heads : List RowHead) (keys : List ℕ) (live : ℕ) → AreKeysPacked heads keys live → (rows : List Row) → packed_rows keys heads ≡ rows
     → (i : ℕ) → i < length rows → (h : RowHead) → h ≡ get_or heads i h → IsHeadOf keys (row_nth rows i) h
 head_is heads keys live packed rows view i lt h is =
     let below : i < length heads = omega (arith, ap length view, length-map heads (row_in keys), lt) in

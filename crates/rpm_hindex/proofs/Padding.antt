@@ -1,6 +1,6 @@
 -- The bytes after keys, where records stay.
 use Rattle.std.proofs.Common.{◌≡◌, ℕ, ◌+◌, ◌<◌, List, drop, refl, sym, ap, ◌∙◌, arith, subst, inl, inr}
-use Rattle.rpm_hindex.proofs.Vocabulary.{AddsPadded, All, all_places, ArePadded, bytes_of, Contains, Index, key_units, length_at, past_key, Remains, run}
+use Rattle.rpm_hindex.proofs.Vocabulary.{AddsPadded, All, all_places, ArePadded, bytes_of, Contains, Index, key_units, length_at, past_key, Remains, units_from}
 use Rattle.rpm_hindex.proofs.Vocabulary.{Units, units_at}
 use Rattle.rpm_hindex.proofs.Runs.{run_same}
 use Rattle.rpm_hindex.proofs.Wholes.{HasChains}
@@ -10,7 +10,7 @@ use Rattle.rpm_hindex.proofs.Extends.{Extends, Stands, length_same, all_same, st
 pub past_same : (u v : ℕ → List ℕ) (p : ℕ) → length_at v p ≡ length_at u p → ((i : ℕ) → p < i → i < p + units_at u p → v i ≡ u i)
     → past_key v p ≡ past_key u p
 past_same u v p long same =
-    ap (λ (n : ℕ). drop n (bytes_of (run v (p + 1) (key_units n)))) long
+    ap (λ (n : ℕ). drop n (bytes_of (units_from v (p + 1) (key_units n)))) long
     ∙ ap (λ (us : Units). drop (length_at u p) (bytes_of us)) (run_same v u (p + 1) (key_units (length_at u p)) (λ i ge lt. same i (omega arith) (omega arith)))
 
 -- what stands in both

@@ -1,7 +1,7 @@
 -- One record on the way to a row's.
 use Rattle.std.proofs.Common.{◌≡◌, ℕ, ◌+◌, ◌*◌, ◌<◌, ◌≤◌, List, [], ◌∷◌, ◌++◌, Bool, true, false, ◌&&◌, sym, ap, ◌∙◌, arith, subst}
 use Rattle.std.specs.Prelude.{Option}
-use Rattle.rpm_hindex.proofs.Vocabulary.{Files, filter, FindFault, follow, HasNone, Head, Index, index_in, is_sound, IsFaultOf, IsLast, IsMet, IsOutside}
+use Rattle.rpm_hindex.proofs.Vocabulary.{Files, filter, FindFault, follow, HasNone, Head, Index, index_in, is_sound, IsFaultOf, IsLastPlace, IsMet, IsOutsideIndex}
 use Rattle.rpm_hindex.proofs.Vocabulary.{IsPath, IsSpot, Met, next_at, PathCosts, Row, row_at, same_row, SkipsTo, sum_by, unit_at, units_at}
 use Rattle.std.proofs.lemmas.Bool.{and_parts}
 use Rattle.std.proofs.lemmas.List.{append_assoc}
@@ -28,7 +28,7 @@ module _ (B b from at end : ℕ) (file before : Files) (done left : List ℕ) (s
       ∙ ap (λ (n : ℕ). sum_by units done + n) (ap (sum_by units) next_left.1 ∙ sum_by-cons units at next_left.0)
 
   -- a fault of the chain from there on comes from outside
-  pub fault_outside : (rest : List ℕ) → IsPath x b end rest 0 → (e : FindFault) → IsFaultOf (follow (index_in B before.idx) b at at) e → IsOutside e
+  pub fault_outside : (rest : List ℕ) → IsPath x b end rest 0 → (e : FindFault) → IsFaultOf (follow (index_in B before.idx) b at at) e → IsOutsideIndex e
   fault_outside rest more e fault =
       outside (follow x b at at) (left ++ rest) e (path_follow x b at (left ++ rest) (path_then x b at end 0 left rest way more))
       (subst (λ (f : Files). IsFaultOf (follow (index_in B f.idx) b at at) e) same fault)
@@ -78,7 +78,7 @@ module _ (B b from at end : ℕ) (file before : Files) (done left : List ℕ) (s
 
     -- it is the row's and kept, and the dropped ones after it were skipped
     pub spot_met : (kept : ℕ → Bool) (last : Option Head) (to : ℕ) (after : Files) → met.head.at ≡ at
-        → IsLast (unit_at file.idx) (filter kept done) last → (met.is_wanted && kept met.head.at) ≡ true → after ≡ file
+        → IsLastPlace (unit_at file.idx) (filter kept done) last → (met.is_wanted && kept met.head.at) ≡ true → after ≡ file
         → ((qs : List ℕ) → IsPath (index_in B after.idx) b met.next qs end → SkipsTo (index_in B after.idx) b end kept met.next to)
         → IsSpot x b from end kept row (record { before = last; at = at; behind = to })
     spot_met kept last to after here is_last hit stays skips =

@@ -1,10 +1,10 @@
 -- A change that was written in place is the index that it was worked out to be.
 use Rattle.std.proofs.Common.{true, ◌*◌, ◌≡◌, ℕ, zero, suc, ◌+◌, ◌-◌, ◌/◌, ◌%◌, ◌^◌, ◌<◌, ◌≤◌, List, [], ◌∷◌, map, length, min, Bool, eqb, ltb, BTreeMap, Vec, Global, refl, sym, ap, ◌∙◌, arith, subst, inl, inr}
 use Rattle.std.specs.Prelude.{Option, Some, None, unwrap_or}
-use Rattle.rpm_hindex.proofs.Vocabulary.{AddsPadded, AddsRows, after, after_tail, after_units, bucket_unit, CanGo, Change, changing, Contains, contains}
+use Rattle.rpm_hindex.proofs.Vocabulary.{AddsPadded, AddsRows, file_after, after_tail, after_units, bucket_unit, CanGo, Change, index_after, Contains, contains}
 use Rattle.rpm_hindex.proofs.Vocabulary.{filter, first_record, get, HasLess, Index, index_in, InPlace, is_bucket_count, is_kept, is_ordered, IsChanged}
 use Rattle.rpm_hindex.proofs.Vocabulary.{IsPaddedPlan, IsPlanFor, IsStarted, IsStrictlySortedBy, IsWellFormed, IsWhole, IsWorkOf, keys, LeavesOrder}
-use Rattle.rpm_hindex.proofs.Vocabulary.{length-cut_up, nat_cmp, Patch, patch_of, Patches, places_of, put, put_after, put_before, put_inside, records, Row}
+use Rattle.rpm_hindex.proofs.Vocabulary.{length-cut_up, nat_cmp, Patch, patch_of, Patches, places_of, with_units, put_after, put_before, put_inside, records, Row}
 use Rattle.rpm_hindex.proofs.Vocabulary.{rows_of, Scratch, times, unit_after, unit_at, unit_of_words, Units, units_of, word, word_0, word_1, word_2, Work}
 use Rattle.std.proofs.lemmas.Cmp.{nat_cmp_total}
 use Rattle.std.proofs.lemmas.Map.Views.{btree_map_get_iff}
@@ -22,11 +22,11 @@ Entries = List (ℕ × List ℕ)
 stays : (es : Entries) (i : ℕ) (v : List ℕ) (file : Units) → ((u : List ℕ) → Contains es (i, u) → u ≡ v) → unit_at file i ≡ v
     → unit_at (after_units (map patch_of es) file) i ≡ v
 stays [] i v file all is = is
-stays (e ∷ es) i v file all is = stays es i v (put e.0 (e.1 ∷ []) file) (λ u (k, lt, at). all u (suc k, omega arith, at)) (elim (cases_eq e.0 i) [
+stays (e ∷ es) i v file all is = stays es i v (with_units e.0 (e.1 ∷ []) file) (λ u (k, lt, at). all u (suc k, omega arith, at)) (elim (cases_eq e.0 i) [
   | inl here ↦
       let value : e.1 ≡ v = all e.1 (0, omega arith, ap (λ (k : ℕ). (k, e.1)) here) in
       let spot : i ≡ e.0 + 0 = omega (arith, here) in
-      ap (unit_at (put e.0 (e.1 ∷ []) file)) spot ∙ put_inside e.0 (e.1 ∷ []) file 0 (omega arith) ∙ value
+      ap (unit_at (with_units e.0 (e.1 ∷ []) file)) spot ∙ put_inside e.0 (e.1 ∷ []) file 0 (omega arith) ∙ value
   | inr other ↦ elim (cases_Bool (ltb i e.0)) [
     | inl below ↦ put_before e.0 (e.1 ∷ []) file i (ltb-true i e.0 below) ∙ is
     | inr above ↦ put_after e.0 (e.1 ∷ []) file i (omega (arith, ltb-false i e.0 above, other)) ∙ is
@@ -39,9 +39,10 @@ found : (es : Entries) (i : ℕ) (v : List ℕ) (file : Units) → ((u : List �
 found [] i v file all (k, lt, at) = absurd (omega arith)
 found (e ∷ es) i v file all (zero, lt, at) =
     let spot : i ≡ e.0 + 0 = omega (arith, ap (λ (p : ℕ × List ℕ). p.0) at) in
-    stays es i v (put e.0 (e.1 ∷ []) file) (λ u (k, below, is). all u (suc k, omega arith, is))
-    (ap (unit_at (put e.0 (e.1 ∷ []) file)) spot ∙ put_inside e.0 (e.1 ∷ []) file 0 (omega arith) ∙ ap (λ (p : ℕ × List ℕ). p.1) at)
-found (e ∷ es) i v file all (suc k, lt, at) = found es i v (put e.0 (e.1 ∷ []) file) (λ u (j, below, is). all u (suc j, omega arith, is)) (k, omega arith, at)
+    stays es i v (with_units e.0 (e.1 ∷ []) file) (λ u (k, below, is). all u (suc k, omega arith, is))
+    (ap (unit_at (with_units e.0 (e.1 ∷ []) file)) spot ∙ put_inside e.0 (e.1 ∷ []) file 0 (omega arith) ∙ ap (λ (p : ℕ × List ℕ). p.1) at)
+found (e ∷ es) i v file all (suc k, lt, at) =
+    found es i v (with_units e.0 (e.1 ∷ []) file) (λ u (j, below, is). all u (suc j, omega arith, is)) (k, omega arith, at)
 
 some_is : {X : Type 0} (u v : X) → Some u ≡ Some v → u ≡ v
 some_is u v e = ap (λ (o : Option _). unwrap_or o u) e
@@ -68,7 +69,7 @@ units_put m ordered file i = go (get nat_cmp m i) refl where
 
 module _ (c : Change) (go : CanGo c) (ordered : IsStrictlySortedBy nat_cmp (keys c.units)) (file : Units) (second : List ℕ) where
   abbrev written : Units
-  written = put 1 (second ∷ []) (after_tail c.extent.used c.tail.items (after_units (map patch_of c.units.entries) file))
+  written = with_units 1 (second ∷ []) (after_tail c.extent.used c.tail.items (after_units (map patch_of c.units.entries) file))
 
   second_is : unit_at written 1 ≡ second
   second_is = put_inside 1 (second ∷ []) (after_tail c.extent.used c.tail.items (after_units (map patch_of c.units.entries) file)) 0 (omega arith)
@@ -82,9 +83,10 @@ module _ (c : Change) (go : CanGo c) (ordered : IsStrictlySortedBy nat_cmp (keys
       let base = after_units (map patch_of c.units.entries) file in
       let here = units_put c.units ordered file i in
       elim (cases_Bool (eqb (length c.tail.items) 0)) [
-        | inl none ↦ ap (λ (f : Units). unit_at f i) (cond-true (eqb (length c.tail.items) 0) base (put c.extent.used (units_of c.tail.items) base) none) ∙ here
+        | inl none ↦ ap (λ (f : Units). unit_at f i) (cond-true (eqb (length c.tail.items) 0) base (with_units c.extent.used (units_of c.tail.items) base) none)
+            ∙ here
         | inr some ↦
-            ap (λ (f : Units). unit_at f i) (cond-false (eqb (length c.tail.items) 0) base (put c.extent.used (units_of c.tail.items) base) some)
+            ap (λ (f : Units). unit_at f i) (cond-false (eqb (length c.tail.items) 0) base (with_units c.extent.used (units_of c.tail.items) base) some)
             ∙ put_before c.extent.used (units_of c.tail.items) base i lt
             ∙ here
       ]
@@ -97,11 +99,11 @@ module _ (c : Change) (go : CanGo c) (ordered : IsStrictlySortedBy nat_cmp (keys
         | inl none ↦ absurd (omega (arith, lt, eqb-true (length c.tail.items) 0 none))
         | inr some ↦
             ap (λ (f : Units). unit_at f (c.extent.used + k)) (cond-false (eqb (length c.tail.items) 0) base
-            (put c.extent.used (units_of c.tail.items) base) some)
+            (with_units c.extent.used (units_of c.tail.items) base) some)
             ∙ put_inside c.extent.used (units_of c.tail.items) base k (omega (arith, lt, length-cut_up (length c.tail.items / 16) c.tail.items))
       ]
 
-  pub placed : word 0 second ≡ c.extent.used + length c.tail.items / 16 → Extends (changing c file) (index_in c.extent.buckets written)
+  pub placed : word 0 second ≡ c.extent.used + length c.tail.items / 16 → Extends (index_after c file) (index_in c.extent.buckets written)
   placed counts = record {
     buckets = refl;
     used = omega (arith, ap (word 0) second_is, counts);
@@ -118,30 +120,30 @@ module _ (c : Change) (go : CanGo c) (ordered : IsStrictlySortedBy nat_cmp (keys
     ];
   }
 
-  pub placed_heads : (b : ℕ) → b < c.extent.buckets → (index_in c.extent.buckets written).head b ≡ (changing c file).head b
+  pub placed_heads : (b : ℕ) → b < c.extent.buckets → (index_in c.extent.buckets written).head b ≡ (index_after c file).head b
   placed_heads b lt = ap (word (b % 4)) (behind_second (bucket_unit b) (omega arith) ∙ before_tail (bucket_unit b) (omega (arith, lt, go.fours, go.front)))
 
 -- what is written, in the words of the plan
 written_is : (d : Change) (p : Patches) (file : Units) → IsWorkOf d (InPlace p)
-    → put 1 (unit_of_words (d.extent.used + length d.tail.items / 16) d.records d.live 0 ∷ [])
-    (after_tail d.extent.used d.tail.items (after_units (map patch_of d.units.entries) file)) ≡ after (InPlace p) file
+    → with_units 1 (unit_of_words (d.extent.used + length d.tail.items / 16) d.records d.live 0 ∷ [])
+    (after_tail d.extent.used d.tail.items (after_units (map patch_of d.units.entries) file)) ≡ file_after (InPlace p) file
 written_is d p file (units, tail, used, second, buckets) =
-    ap (λ (w : List ℕ). put 1 (w ∷ []) (after_tail d.extent.used d.tail.items (after_units (map patch_of d.units.entries) file))) (sym second)
-    ∙ ap (λ (ps : List Patch). put 1 (p.second ∷ []) (after_tail d.extent.used d.tail.items (after_units ps file))) (sym units)
-    ∙ ap (λ (t : Vec ℕ Global). put 1 (p.second ∷ []) (after_tail d.extent.used t.items (after_units p.units.items file))) (sym tail)
-    ∙ ap (λ (n : ℕ). put 1 (p.second ∷ []) (after_tail n p.tail.items (after_units p.units.items file))) (sym used)
+    ap (λ (w : List ℕ). with_units 1 (w ∷ []) (after_tail d.extent.used d.tail.items (after_units (map patch_of d.units.entries) file))) (sym second)
+    ∙ ap (λ (ps : List Patch). with_units 1 (p.second ∷ []) (after_tail d.extent.used d.tail.items (after_units ps file))) (sym units)
+    ∙ ap (λ (t : Vec ℕ Global). with_units 1 (p.second ∷ []) (after_tail d.extent.used t.items (after_units p.units.items file))) (sym tail)
+    ∙ ap (λ (n : ℕ). with_units 1 (p.second ∷ []) (after_tail n p.tail.items (after_units p.units.items file))) (sym used)
 
 -- what is written in place makes the change
 pub place_plan : (c d : Change) (drops adds : List Row) (file : Units) (work : Work) → CanGo d → IsStrictlySortedBy nat_cmp (keys d.units)
     → IsWorkOf d work → AddsRows c d file adds
-    → HasLess drops (records d.extent.buckets file) (rows_of (changing c file)) → d.records < 2 ^ 32 → d.live < 2 ^ 32 → IsPlanFor drops adds
+    → HasLess drops (records d.extent.buckets file) (rows_of (index_after c file)) → d.records < 2 ^ 32 → d.live < 2 ^ 32 → IsPlanFor drops adds
     d.extent.buckets file work
 unfolding IsPlanFor
 place_plan c d drops adds file (Scratch image) go ordered is more less count live = absurd is
 place_plan c d drops adds file (InPlace p) go ordered (units, tail, used, second, buckets) more less count live =
     let B = d.extent.buckets in
     let words = unit_of_words (d.extent.used + length d.tail.items / 16) d.records d.live 0 in
-    let new = put 1 (words ∷ []) (after_tail d.extent.used d.tail.items (after_units (map patch_of d.units.entries) file)) in
+    let new = with_units 1 (words ∷ []) (after_tail d.extent.used d.tail.items (after_units (map patch_of d.units.entries) file)) in
     let one : unit_at new 1 ≡ words = second_is d go ordered file words in
     let zero_word : word 0 words ≡ d.extent.used + length d.tail.items / 16 = word_0 (d.extent.used + length d.tail.items / 16) d.records d.live 0
     (omega (arith, go.room)) in
@@ -149,34 +151,34 @@ place_plan c d drops adds file (InPlace p) go ordered (units, tail, used, second
     let second_word : word 2 (unit_at new 1) ≡ d.live = ap (word 2) one ∙ word_2 (d.extent.used + length d.tail.items / 16) d.records d.live 0 live in
     let ext = placed d go ordered file words zero_word in
     let heads = placed_heads d go ordered file words in
-    let whole = whole_same (changing d file) (index_in B new) ext heads d.records d.live more.whole in
+    let whole = whole_same (index_after d file) (index_in B new) ext heads d.records d.live more.whole in
     let well : IsWellFormed B new = subst (λ (n : ℕ). IsWhole n (word 2 (unit_at new 1)) (index_in B new)) (sym first_word)
     (subst (λ (n : ℕ). IsWhole d.records n (index_in B new)) (sym second_word) whole) in
-    let rows : rows_of (index_in B new) ≡ rows_of (changing d file) = rows_same (changing d file) (index_in B new) ext heads
-    (places_of (changing d file)) (has_chains (changing d file) more.whole.chains) in
+    let rows : rows_of (index_in B new) ≡ rows_of (index_after d file) = rows_same (index_after d file) (index_in B new) ext heads
+    (places_of (index_after d file)) (has_chains (index_after d file) more.whole.chains) in
     let changed : IsChanged drops adds (records B file) B new = record {
       whole = well;
       rows = λ r. ap (times r) rows ∙ more.rows' r ∙ ap (λ (n : ℕ). n + times r adds) (less r);
     } in
-    subst (λ (n : ℕ). IsChanged drops adds (records B file) n (after (InPlace p) file)) (sym buckets)
+    subst (λ (n : ℕ). IsChanged drops adds (records B file) n (file_after (InPlace p) file)) (sym buckets)
     (subst (IsChanged drops adds (records B file) B) (written_is d p file (units, tail, used, second, buckets)) changed)
 
 -- and the records that it adds are padded
 pub place_padded : (c d : Change) (adds : List Row) (file : Units) (work : Work) → CanGo d → IsStrictlySortedBy nat_cmp (keys d.units)
-    → IsWorkOf d work → AddsRows c d file adds → AddsPadded (index_in d.extent.buckets file) (changing c file) → IsPaddedPlan d.extent.buckets file work
+    → IsWorkOf d work → AddsRows c d file adds → AddsPadded (index_in d.extent.buckets file) (index_after c file) → IsPaddedPlan d.extent.buckets file work
 unfolding IsPaddedPlan
 place_padded c d adds file (Scratch image) go ordered is more first = absurd is
 place_padded c d adds file (InPlace p) go ordered (units, tail, used, second, buckets) more first =
     let B = d.extent.buckets in
     let words = unit_of_words (d.extent.used + length d.tail.items / 16) d.records d.live 0 in
-    let new = put 1 (words ∷ []) (after_tail d.extent.used d.tail.items (after_units (map patch_of d.units.entries) file)) in
+    let new = with_units 1 (words ∷ []) (after_tail d.extent.used d.tail.items (after_units (map patch_of d.units.entries) file)) in
     let zero_word : word 0 words ≡ d.extent.used + length d.tail.items / 16 = word_0 (d.extent.used + length d.tail.items / 16) d.records d.live 0
     (omega (arith, go.room)) in
-    let last = adds_same (changing d file) (index_in B new) (placed d go ordered file words zero_word) (placed_heads d go ordered file words)
-    (places_of (changing d file)) (has_chains (changing d file) more.whole.chains) in
-    let all = adds_then (index_in B file) (changing d file) (index_in B new) (adds_then (index_in B file) (changing c file) (changing d file) first
+    let last = adds_same (index_after d file) (index_in B new) (placed d go ordered file words zero_word) (placed_heads d go ordered file words)
+    (places_of (index_after d file)) (has_chains (index_after d file) more.whole.chains) in
+    let all = adds_then (index_in B file) (index_after d file) (index_in B new) (adds_then (index_in B file) (index_after c file) (index_after d file) first
     more.padded) last in
-    subst (λ (n : ℕ). AddsPadded (index_in B file) (index_in n (after (InPlace p) file))) (sym buckets)
+    subst (λ (n : ℕ). AddsPadded (index_in B file) (index_in n (file_after (InPlace p) file))) (sym buckets)
     (subst (λ (f : Units). AddsPadded (index_in B file) (index_in B f)) (written_is d p file (units, tail, used, second, buckets)) all)
 
 filter_all : (kept : ℕ → Bool) (qs : List ℕ) → ((q : ℕ) → kept q ≡ true) → filter kept qs ≡ qs
@@ -189,7 +191,7 @@ pub started : (c : Change) (file : Units) → ((q : ℕ) → get nat_cmp c.units
     → ((p : ℕ) → is_kept (λ q. contains nat_cmp c.dropped q) p ≡ true) → IsWellFormed c.extent.buckets file → IsStarted c file
 started c file empty none used records_is live_is all whole =
     let x : Index = index_in c.extent.buckets file in
-    let y : Index = changing c file in
+    let y : Index = index_after c file in
     let ext : Extends x y = record {
       buckets = refl;
       used = omega (arith, used);

@@ -1,10 +1,8 @@
 -- Lists that have the same rows, each as often.
-use Rattle.std.proofs.Common.{◌≡◌, ℕ, ◌+◌, ◌<◌, List, [], ◌∷◌, length, true, refl, sym, ap, ◌∙◌, arith, inl, inr}
-use Rattle.rpm_hindex.proofs.Vocabulary.{index_units, live_of, once, record_units, Row, same_is, same_row, SameRows, sum_by, times, times-append, times-cons}
-use Rattle.rpm_hindex.proofs.Vocabulary.{times_none, times_one, units_for, without}
-use Rattle.std.proofs.lemmas.Bool.{cases_Bool, cond-true, cond-false, and_from, eq-eqb}
+use Rattle.std.proofs.Common.{◌≡◌, ℕ, List, [], ◌∷◌, length, refl, sym, ap, ◌∙◌, arith}
+use Rattle.rpm_hindex.proofs.Vocabulary.{index_units, live_of, once, record_units, Row, SameRows, sum_by, times-cons}
+use Rattle.rpm_hindex.proofs.Vocabulary.{times_none, units_for, without}
 use Rattle.std.proofs.lemmas.List.Sums.{sum_by-cons}
-use Rattle.std.proofs.lemmas.Slice.Eq.{bytes_eq-Decides}
 
 module _ (f : Row → ℕ) where
   pub sum_same_rows : (old new : List Row) → SameRows old new → sum_by f new ≡ sum_by f old

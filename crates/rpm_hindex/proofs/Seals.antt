@@ -1,7 +1,7 @@
 -- A file whose units after unit 0 stay.
 use Rattle.std.proofs.Common.{◌≡◌, ℕ, ◌+◌, ◌/◌, ◌%◌, ◌<◌, ◌≤◌, max, List, [], ◌∷◌, length, take, refl, sym, ap, ◌∙◌, arith, subst}
-use Rattle.rpm_hindex.proofs.Vocabulary.{AddsPadded, index_in, IsWellFormed, IsWhole, Keeps, length-cut_up, length-put, places_of, put, put_after, put_before}
-use Rattle.rpm_hindex.proofs.Vocabulary.{put_inside, records, State, unit_at, unit_at-cut_up, Units, units_of, word}
+use Rattle.rpm_hindex.proofs.Vocabulary.{AddsPadded, index_in, IsWellFormed, IsWhole, KeepsIndexValue, length-cut_up, length-put, places_of, with_units, put_after, put_before}
+use Rattle.rpm_hindex.proofs.Vocabulary.{put_inside, records, IndexState, unit_at, unit_at-cut_up, Units, units_of, word}
 use Rattle.rpm_hindex.proofs.Wholes.{has_chains}
 use Rattle.rpm_hindex.proofs.Extends.{Extends, rows_same, whole_same}
 use Rattle.rpm_hindex.proofs.Padding.{adds_same}
@@ -33,11 +33,11 @@ module _ (buckets : ℕ) (old new : Units) (same : (i : ℕ) → 1 ≤ i → uni
       (has_chains (index_in buckets old) whole.chains)
 
 -- a new unit 0
-module _ (unit : List ℕ) (old new : Units) (is : new ≡ put 0 (unit ∷ []) old) where
+module _ (unit : List ℕ) (old new : Units) (is : new ≡ with_units 0 (unit ∷ []) old) where
   pub front_behind : (i : ℕ) → 1 ≤ i → unit_at new i ≡ unit_at old i
   front_behind i from = ap (λ (f : Units). unit_at f i) is ∙ put_after 0 (unit ∷ []) old i (omega arith)
 
-  pub front_kept : (s : State) (units : ℕ) → Keeps old s → units ≡ max s.units 1 → Keeps new (record {
+  pub front_kept : (s : IndexState) (units : ℕ) → KeepsIndexValue old s → units ≡ max s.units 1 → KeepsIndexValue new (record {
     first = unit;
     second = s.second;
     units = units;
@@ -49,19 +49,19 @@ module _ (unit : List ℕ) (old new : Units) (is : new ≡ put 0 (unit ∷ []) o
     units = omega (arith, keeps.units, ap length is, length-put 0 (unit ∷ []) old);
   }
 
-abbrev pub state : List ℕ → List ℕ → ℕ → State
+abbrev pub state : List ℕ → List ℕ → ℕ → IndexState
 state first second units = record { first = first; second = second; units = units; pending = 0 }
 
 pub same_state : (f g s t : List ℕ) (u v : ℕ) → f ≡ g → s ≡ t → u ≡ v → state f s u ≡ state g t v
 same_state f g s t u v a b c = ap (λ (x : List ℕ). state x s u) a ∙ ap (λ (x : List ℕ). state g x u) b ∙ ap (λ (x : ℕ). state g t x) c
 
 -- units from unit 1 on
-module _ (bytes : List ℕ) (old new : Units) (is : new ≡ put 1 (units_of bytes) old) where
+module _ (bytes : List ℕ) (old new : Units) (is : new ≡ with_units 1 (units_of bytes) old) where
   pub image_held : (k : ℕ) → k < length (units_of bytes) → unit_at new (1 + k) ≡ unit_at (units_of bytes) k
   image_held k lt = ap (λ (f : Units). unit_at f (1 + k)) is ∙ put_inside 1 (units_of bytes) old k lt
 
-  pub image_kept : (s : State) (units pending : ℕ) → 16 ≤ length bytes → Keeps old s → units ≡ max s.units (1 + length bytes / 16)
-      → Keeps new (record { first = s.first; second = take 16 bytes; units = units; pending = pending })
+  pub image_kept : (s : IndexState) (units pending : ℕ) → 16 ≤ length bytes → KeepsIndexValue old s → units ≡ max s.units (1 + length bytes / 16)
+      → KeepsIndexValue new (record { first = s.first; second = take 16 bytes; units = units; pending = pending })
   image_kept s units pending some keeps long = record {
     first = keeps.first ∙ sym (ap (λ (f : Units). unit_at f 0) is ∙ put_before 1 (units_of bytes) old 0 (omega arith));
     second = sym (image_held 0 (omega (arith, length-cut_up (length bytes / 16) bytes)) ∙ unit_at-cut_up (length bytes / 16) bytes 0 (omega arith));

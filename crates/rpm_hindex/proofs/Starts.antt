@@ -1,7 +1,7 @@
 -- Where the next row of a bucket is looked for first.
 use Rattle.std.proofs.Common.{◌≡◌, ℕ, suc, List, [], ◌∷◌, ◌++◌, Bool, true, false, cond, not, Ok, refl, sym, ap, ◌∙◌, arith, subst, inl, inr}
 use Rattle.std.specs.Prelude.{Option, Some, None, ◌⊎◌}
-use Rattle.rpm_hindex.proofs.Vocabulary.{AreStarts, bucket_of, chain, Contains, Drops, filter, follow, Head, Index, is_kept, is_sound, IsFoundFrom, IsLast}
+use Rattle.rpm_hindex.proofs.Vocabulary.{AreStarts, bucket_of, chain, Contains, DropOfOne, filter, follow, Head, Index, is_kept, is_sound, IsFoundFrom, IsLastPlace}
 use Rattle.rpm_hindex.proofs.Vocabulary.{IsMissing, IsPath, IsSpot, IsStart, next_at, option_or, Puts, Row, row_at, Spot, Start}
 use Rattle.std.proofs.lemmas.List.{append_assoc, append-nil}
 use Rattle.std.proofs.lemmas.List.Elements.{filter-append, Contains-append_cases}
@@ -14,8 +14,9 @@ use Rattle.rpm_hindex.proofs.Ways.{path_then, path_cost}
 -- ---- a row is found after a start, or before it
 
 -- the last of two lists
-pub last_or : (unit : ℕ → List ℕ) (ps qs : List ℕ) (p q : Option Head) → IsLast unit ps q → IsLast unit qs p → IsLast unit (ps ++ qs) (option_or p q)
-last_or unit ps qs None q first none = subst (λ (rs : List ℕ). IsLast unit rs q) (sym (ap (λ (rs : List ℕ). ps ++ rs) none ∙ append-nil ps)) first
+pub last_or : (unit : ℕ → List ℕ) (ps qs : List ℕ) (p q : Option Head) → IsLastPlace unit ps q → IsLastPlace unit qs p
+    → IsLastPlace unit (ps ++ qs) (option_or p q)
+last_or unit ps qs None q first none = subst (λ (rs : List ℕ). IsLastPlace unit rs q) (sym (ap (λ (rs : List ℕ). ps ++ rs) none ∙ append-nil ps)) first
 last_or unit ps qs (Some h) q first (head, (front, is)) =
     (head, (ps ++ front, ap (λ (rs : List ℕ). ps ++ rs) is ∙ sym (append_assoc ps front (h.at ∷ []))))
 
@@ -31,7 +32,7 @@ module _ (x : Index) (b from : ℕ) (kept : ℕ → Bool) (row : Row) (start : S
   found_behind s is = record {
     front = st.front ++ is.front;
     path = path_then x b from start.at s.at st.front is.front st.path is.path;
-    last = subst (λ (ps : List ℕ). IsLast x.unit ps (option_or s.before start.before)) (sym (filter-append kept st.front is.front))
+    last = subst (λ (ps : List ℕ). IsLastPlace x.unit ps (option_or s.before start.before)) (sym (filter-append kept st.front is.front))
         (last_or x.unit (filter kept st.front) (filter kept is.front) s.before start.before st.last is.last);
     some = is.some;
     sound = is.sound;
@@ -80,7 +81,7 @@ pub record Loses (kept later : ℕ → Bool) (p : ℕ) : Type 0 where
   pub gone : later p ≡ false
   pub others : (q : ℕ) → (q ≡ p → ⊥) → later q ≡ kept q
 
-pub loses : (old new : ℕ → Bool) (p : ℕ) → Drops old new p → Loses (is_kept old) (is_kept new) p
+pub loses : (old new : ℕ → Bool) (p : ℕ) → DropOfOne old new p → Loses (is_kept old) (is_kept new) p
 loses old new p put = record {
   gone = ap not put.here;
   others = λ q other. ap not (put.others q other);
@@ -99,7 +100,7 @@ module _ (x : Index) (b from : ℕ) (kept later : ℕ → Bool) where
   start_stays s places ok same is = record {
     front = is.front;
     path = is.path;
-    last = subst (λ (ps : List ℕ). IsLast x.unit ps s.before)
+    last = subst (λ (ps : List ℕ). IsLastPlace x.unit ps s.before)
         (sym (filter_each kept later is.front (λ q c. same q (path_above x b from s.at is.front is.path q c).2))) is.last;
     ends = elim is.ends [
       | inl zeros ↦ inl zeros
@@ -136,7 +137,7 @@ module _ (x : Index) (b from : ℕ) (kept later : ℕ → Bool) where
       record {
         front = is.front ++ s.at ∷ dropped;
         path = path_then x b from s.at s.behind is.front (s.at ∷ dropped) is.path (refl, is.some, is.sound, is.rest.path);
-        last = subst (λ (ps : List ℕ). IsLast x.unit ps s.before)
+        last = subst (λ (ps : List ℕ). IsLastPlace x.unit ps s.before)
             (sym (filter-append later is.front (s.at ∷ dropped) ∙ ap (λ (ps : List ℕ). filter later is.front ++ ps) none
             ∙ append-nil (filter later is.front) ∙ front_same)) is.last;
         ends = elim is.rest.ends [

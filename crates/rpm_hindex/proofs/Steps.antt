@@ -1,7 +1,7 @@
 -- One record of a chain, as it was read.
 use Rattle.std.proofs.Common.{◌≡◌, ℕ, ◌+◌, ◌*◌, ◌/◌, ◌%◌, ◌^◌, ◌≤◌, List, Bool, true, false, ◌&&◌, cond, eqb, Result, Ok, Err, refl, sym, ap, ◌∙◌, arith, subst, inl, inr}
 use Rattle.std.specs.Prelude.{Option, Some, None}
-use Rattle.rpm_hindex.proofs.Vocabulary.{bytes_eq, Files, FindFault, first_record, has_key, Head, Hit, is_wanted, IsFaultOf, IsFront, IsOutside, Row, row_at}
+use Rattle.rpm_hindex.proofs.Vocabulary.{bytes_eq, Files, FindFault, first_record, has_key, Head, Hit, is_wanted, IsFaultOf, IsFront, IsOutsideIndex, Row, row_at}
 use Rattle.rpm_hindex.proofs.Vocabulary.{row_of_hit, same_row, units_at, word}
 use Rattle.std.proofs.lemmas.Bool.{cases_Bool, and_parts, eqb-true, eq-eqb, and_from}
 use Rattle.rpm_hindex.specs.declared.faults.FindFault.TheVariants.{BadIndex, DiskFault, NoMemory}
@@ -43,7 +43,7 @@ wanted_by_key kind key None r same = refl
 wanted_by_key kind key (Some hit) r same = let is = same hit refl in same_by_key (row_of_hit kind key hit) r is.0 is.1
 
 -- a well formed chain has no fault
-pub outside : (said : Result (List ℕ) ℕ) (places : List ℕ) (e : FindFault) → said ≡ Ok places → IsFaultOf said e → IsOutside e
+pub outside : (said : Result (List ℕ) ℕ) (places : List ℕ) (e : FindFault) → said ≡ Ok places → IsFaultOf said e → IsOutsideIndex e
 outside said places (BadIndex unit) is fault =
     let wrong : Err unit ≡ Ok places = sym fault ∙ is in
     let no' : ⊥ = cc in no'

@@ -3,7 +3,7 @@ use Rattle.std.proofs.Common.{◌≡◌, ℕ, ◌≤◌, List, [], ◌∷◌, le
 use Rattle.std.proofs.lemmas.List.{get_or_past}
 use Rattle.std.proofs.lemmas.Bool.{cases_lt, cases_eq}
 use Rattle.rpm_outside.specs.declared.disk.Disk as disk
-use Rattle.rpm_hindex.proofs.Vocabulary.{blank, Changes, changes_then, changes_weaker, Idx, length-put, put, put_after, put_before, put_inside, same_units}
+use Rattle.rpm_hindex.proofs.Vocabulary.{blank, Changes, changes_then, changes_weaker, Idx, length-put, with_units, put_after, put_before, put_inside, same_units}
 use Rattle.rpm_hindex.proofs.Vocabulary.{SameSeal, SealedOrSame, Torn, unit_at, Units, VoidOrSame}
 
 -- a write after unit 0 leaves it
@@ -20,7 +20,7 @@ module _ (unit : List ℕ) (a b : Units) (torn : Torn 0 (unit ∷ []) a b) where
     | inr new ↦ new ∙ put_after 0 (unit ∷ []) a i (omega arith)
   ]
 
-  front_new : unit_at b 0 ≡ unit_at (put 0 (unit ∷ []) a) 0 → unit_at b 0 ≡ unit
+  front_new : unit_at b 0 ≡ unit_at (with_units 0 (unit ∷ []) a) 0 → unit_at b 0 ≡ unit
   front_new e = e ∙ put_inside 0 (unit ∷ []) a 0 (omega arith)
 
   long : 1 ≤ length a → length b ≡ length a
@@ -32,9 +32,9 @@ module _ (unit : List ℕ) (a b : Units) (torn : Torn 0 (unit ∷ []) a b) where
     | inr other ↦ rest_same i (omega (arith, other))
   ])
 
-  new_file : 1 ≤ length a → unit_at b 0 ≡ unit_at (put 0 (unit ∷ []) a) 0 → b ≡ put 0 (unit ∷ []) a
-  new_file some new = same_units b (put 0 (unit ∷ []) a) (omega (arith, long some, length-put 0 (unit ∷ []) a)) (λ i. elim (cases_eq i 0) [
-    | inl zeros ↦ ap (unit_at b) zeros ∙ new ∙ sym (ap (unit_at (put 0 (unit ∷ []) a)) zeros)
+  new_file : 1 ≤ length a → unit_at b 0 ≡ unit_at (with_units 0 (unit ∷ []) a) 0 → b ≡ with_units 0 (unit ∷ []) a
+  new_file some new = same_units b (with_units 0 (unit ∷ []) a) (omega (arith, long some, length-put 0 (unit ∷ []) a)) (λ i. elim (cases_eq i 0) [
+    | inl zeros ↦ ap (unit_at b) zeros ∙ new ∙ sym (ap (unit_at (with_units 0 (unit ∷ []) a)) zeros)
     | inr other ↦ rest_same i (omega (arith, other)) ∙ sym (put_after 0 (unit ∷ []) a i (omega (arith, other)))
   ])
 

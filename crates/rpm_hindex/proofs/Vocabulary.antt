@@ -1,22 +1,22 @@
 -- The words of proofs, from one place.
-pub use Rattle.rpm_hindex.specs.Answers.{AddsHit, AsOften, ChainCosts, FindIs, has_key, hit_at, HitsAre, is_wanted, IsBefore, IsFaultOf, IsOutside}
+pub use Rattle.rpm_hindex.specs.Answers.{AddsHit, AsOften, ChainCosts, FindIs, has_key, hit_at, HitsAre, is_wanted, IsBefore, IsFaultOf, IsOutsideIndex}
 pub use Rattle.rpm_hindex.specs.Answers.{row_of_hit, same_hit}
 unfoldable pub use Rattle.rpm_hindex.specs.Answers.{times_hit}
 pub use Rattle.rpm_hindex.specs.Costs.{chain_bytes, chains_bytes}
-pub use Rattle.rpm_hindex.specs.Images.{IsSealed, Leaves, SameSeal, SealedOrSame, VoidOrSame}
-pub use Rattle.rpm_hindex.specs.Index.{behind, bucket_of, bucket_unit, follow, Index, index_in, is_link, is_placed, key_at, length_at, next_at, places_in}
-pub use Rattle.rpm_hindex.specs.Index.{records, run, units_at}
+pub use Rattle.rpm_hindex.specs.Images.{IsSealed, IsDurableAs, SameSeal, SealedOrSame, VoidOrSame}
+pub use Rattle.rpm_hindex.specs.Index.{behind_place, bucket_of, bucket_unit, follow, Index, index_in, is_link, is_placed, key_at, length_at, next_at, places_in}
+pub use Rattle.rpm_hindex.specs.Index.{records, units_from, units_at}
 unfoldable pub use Rattle.rpm_hindex.specs.Index.{all_places, chain, is_sound, places_of, row_at, rows_of}
 pub use Rattle.rpm_hindex.specs.Padding.{AddsPadded, ArePadded, IsPadded, past_key, Remains}
-pub use Rattle.rpm_hindex.specs.Plans.{after, after_tail, after_units, ArePatches, buckets_after, CanWrite, HasChanged, IsAfter, IsChanged, IsSizedFor}
+pub use Rattle.rpm_hindex.specs.Plans.{file_after, after_tail, after_units, ArePatches, buckets_after, CanWrite, HasChanged, IsAfter, IsChanged, IsSizedFor}
 pub use Rattle.rpm_hindex.specs.Plans.{LeavesOrder, patch_at, reach_with, ReachesFor, second_after, units_after, WritesPadded}
 unfoldable pub use Rattle.rpm_hindex.specs.Plans.{IsPaddedPlan, IsPlanFor}
-pub use Rattle.rpm_hindex.specs.Refusals.{DropsMore, HasRoomFor, HoldsMore, IsBad, IsBadFor, IsFaulty, IsTooLargeFor}
+pub use Rattle.rpm_hindex.specs.Refusals.{DropsMore, HasUnitsFor, HoldsMore, IsBad, IsBadFor, IsFaulty, IsTooLargeFor}
 pub use Rattle.rpm_hindex.specs.Rows.{fnv, no_row, Row, row_nth, same_row, SameRows}
 unfoldable pub use Rattle.rpm_hindex.specs.Rows.{hash_of, times}
-pub use Rattle.rpm_hindex.specs.Sizes.{doubled, first_record, index_units, key_units, record_units, units_for}
+pub use Rattle.rpm_hindex.specs.Sizes.{doubled_buckets, first_record, index_units, key_units, record_units, units_for}
 unfoldable pub use Rattle.rpm_hindex.specs.Sizes.{bucket_count, is_bucket_count, live_of}
-pub use Rattle.rpm_hindex.specs.State.{buckets_of, EndsInZero, is_headed, Keeps, magic, seal_unit, sealed, State, state_of}
+pub use Rattle.rpm_hindex.specs.State.{buckets_of, EndsInZero, is_headed, KeepsIndexValue, index_magic, seal_unit, sealed, IndexState, opened_state}
 unfoldable pub use Rattle.rpm_hindex.specs.State.{is_current, is_in_order, is_ordered}
 pub use Rattle.rpm_hindex.specs.Whole.{IsWellFormed, IsWhole}
 pub use Rattle.rpm_hindex.specs.declared.chain.Extent.{Extent}
@@ -35,35 +35,35 @@ pub use Rattle.rpm_hindex.specs.declared.plan.Work.TheVariants.{InPlace, Scratch
 pub use Rattle.rpm_hindex.specs.declared.row_search.Start.{Start}
 pub use Rattle.rpm_hindex.specs.declared.rows.RowHead.{RowHead}
 pub use Rattle.rpm_hindex.specs.declared.spots.Spot.{Spot}
-pub use Rattle.rpm_hindex.specs.inner.Changes.{AddsRows, CanGo, changing, CountsLess, Drops, HasFault, HasGone, HasLess, HasNoFault, HasWord, if_kept}
-pub use Rattle.rpm_hindex.specs.inner.Changes.{index_with, is_kept, IsBadSoFar, IsBehind, IsChainFault, IsCut, IsFresh, IsHonest, IsOther, IsScratchOf}
+pub use Rattle.rpm_hindex.specs.inner.Changes.{AddsRows, CanGo, index_after, CountsLess, DropOfOne, HasFault, HasGone, HasLess, HasNoFault, HasWord, if_kept}
+pub use Rattle.rpm_hindex.specs.inner.Changes.{index_with, is_kept, IsBadSoFar, IsBehind, IsChainFault, IsWithoutDropped, IsFreshChange, IsHonest, IsOther, IsScratchOf}
 pub use Rattle.rpm_hindex.specs.inner.Changes.{IsShort, IsStarted, IsTooLarge, IsWithout, IsWorkOf, kept_below, kept_in, kept_of, patch_of, Puts, PutsOne}
 pub use Rattle.rpm_hindex.specs.inner.Changes.{PutsWithin, SetsBucket, SetsNext, Stays, unit_after, Unlinks}
-pub use Rattle.rpm_hindex.specs.inner.Drafts.{draft_index, Holds, IsDraft, IsImage, IsMade}
-pub use Rattle.rpm_hindex.specs.inner.Making.{padding}
+pub use Rattle.rpm_hindex.specs.inner.Drafts.{draft_index, HasDraftUnits, IsDraft, IsDraftOf, IsIndexMade}
+pub use Rattle.rpm_hindex.specs.inner.Making.{key_padding}
 unfoldable pub use Rattle.rpm_hindex.specs.inner.Making.{record_of}
 pub use Rattle.rpm_hindex.specs.inner.Ongoing.{IsDropFault}
-pub use Rattle.rpm_hindex.specs.inner.Packed.{IsPacked, no_head, row_in, rows_in}
-pub use Rattle.rpm_hindex.specs.inner.Records.{IsOpen}
-pub use Rattle.rpm_hindex.specs.inner.RowLaws.{live-append, once, same_is, times-append, times-cons, times_none, times_one, without}
-pub use Rattle.rpm_hindex.specs.inner.Spots.{HasNone, IsAhead, IsFound, IsFoundFrom, IsFront, IsHead, IsHeadWithin, IsLast, IsLinked, IsMet, IsMissing}
-pub use Rattle.rpm_hindex.specs.inner.Spots.{IsNext, IsPath, IsSoundSpot, IsSpot, IsWithin, OnWay, PathCosts, SkipsTo}
+pub use Rattle.rpm_hindex.specs.inner.Packed.{AreKeysPacked, no_head, row_in, packed_rows}
+pub use Rattle.rpm_hindex.specs.inner.Records.{HasBuckets}
+pub use Rattle.rpm_hindex.specs.laws.RowLaws.{live-append, once, same_is, times-append, times-cons, times_none, times_one, without}
+pub use Rattle.rpm_hindex.specs.inner.Spots.{HasNone, IsRecordAhead, IsRowFound, IsFoundFrom, IsFront, IsRecordHead, IsHeadWithin, IsLastPlace, IsLinked, IsMet, IsMissing}
+pub use Rattle.rpm_hindex.specs.inner.Spots.{IsNextUnit, IsPath, IsSoundSpot, IsSpot, IsWithin, OnWay, PathCosts, SkipsTo}
 pub use Rattle.rpm_hindex.specs.inner.Starts.{AreStarts, IsStart, StandsWithin, StandWithin}
 pub use Rattle.rpm_outside.specs.Changes.{IsSame}
 pub use Rattle.rpm_outside.specs.Crash.{Torn}
-pub use Rattle.rpm_outside.specs.Files.{bytes_of, cut_up, Files, put, unit_at, Units, units_of}
+pub use Rattle.rpm_outside.specs.Files.{bytes_of, cut_up, Files, with_units, unit_at, Units, units_of}
 unfoldable pub use Rattle.rpm_outside.specs.Files.{blank}
 pub use Rattle.rpm_outside.specs.Frame.{Changes}
-pub use Rattle.rpm_outside.specs.Looks.{Looks, LooksAt}
+pub use Rattle.rpm_outside.specs.Looks.{OnlyReads, OnlyReadsFile}
 pub use Rattle.rpm_outside.specs.Words.{unit_of_words}
 unfoldable pub use Rattle.rpm_outside.specs.Words.{bytes_of_word, word}
 pub use Rattle.rpm_outside.specs.declared.disk.File.TheVariants.{Idx}
-pub use Rattle.rpm_outside.specs.inner.Changing.{changes_between, changes_sync, changes_then, changes_weaker, changes_write}
-pub use Rattle.rpm_outside.specs.inner.Cuts.{bytes_of-cut_up, cut_up_one, length-cut_up, unit_at-cut_up}
-pub use Rattle.rpm_outside.specs.inner.Looking.{looks_at_from, looks_at_none, looks_at_then, looks_more, looks_none, looks_then}
-pub use Rattle.rpm_outside.specs.inner.PutLaws.{same_units}
-pub use Rattle.rpm_outside.specs.inner.Puts.{length-put, put_after, put_before, put_inside}
-pub use Rattle.rpm_outside.specs.inner.UnitLaws.{length-unit, word_0, word_1, word_2, word_3}
+pub use Rattle.rpm_outside.specs.laws.Changing.{changes_between, changes_sync, changes_then, changes_weaker, changes_write}
+pub use Rattle.rpm_outside.specs.laws.Cuts.{bytes_of-cut_up, cut_up_one, length-cut_up, unit_at-cut_up}
+pub use Rattle.rpm_outside.specs.laws.Looking.{looks_at_from, looks_at_none, looks_at_then, looks_more, looks_none, looks_then}
+pub use Rattle.rpm_outside.specs.laws.PutLaws.{same_units}
+pub use Rattle.rpm_outside.specs.laws.Puts.{length-put, put_after, put_before, put_inside}
+pub use Rattle.rpm_outside.specs.laws.UnitLaws.{length-unit, word_0, word_1, word_2, word_3}
 pub use Rattle.std.specs.BTreeMap.{get, is_at, keys}
 pub use Rattle.std.specs.BTreeSet.{BTreeSet, contains}
 pub use Rattle.std.specs.Int.{from_le_bytes, w32}

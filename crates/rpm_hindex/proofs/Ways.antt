@@ -1,8 +1,8 @@
 -- The way to a row's record.
 use Rattle.std.proofs.Common.{◌≡◌, ℕ, zero, suc, ◌+◌, ◌*◌, ◌<◌, ◌≤◌, List, [], ◌∷◌, ◌++◌, Bool, true, false, ◌&&◌, cond, Ok, refl, sym, ap, ◌∙◌, arith, subst, inl, inr}
 use Rattle.std.specs.Prelude.{Option, Some, ◌⊎◌}
-use Rattle.rpm_hindex.proofs.Vocabulary.{behind, chain, Contains, Files, filter, follow, HasNone, Head, Index, index_in, is_link, is_sound, IsHead}
-use Rattle.rpm_hindex.proofs.Vocabulary.{IsHeadWithin, IsLast, IsPath, IsSpot, next_at, places_of, Row, row_at, same_row, Spot, sum_by, unit_at, units_at}
+use Rattle.rpm_hindex.proofs.Vocabulary.{behind_place, chain, Contains, Files, filter, follow, HasNone, Head, Index, index_in, is_link, is_sound, IsRecordHead}
+use Rattle.rpm_hindex.proofs.Vocabulary.{IsHeadWithin, IsLastPlace, IsPath, IsSpot, next_at, places_of, Row, row_at, same_row, Spot, sum_by, unit_at, units_at}
 use Rattle.std.proofs.lemmas.List.{append_assoc, append-nil}
 use Rattle.std.proofs.lemmas.List.Elements.{filter-append, Contains-append_cases}
 use Rattle.std.proofs.lemmas.List.Sums.{sum_by-append}
@@ -28,7 +28,7 @@ module _ (x : Index) (b : ℕ) where
   path_follows from to (p ∷ ps) (is, some, sound, rest) =
       ap (λ (n : ℕ). follow x b n n) is
       ∙ follow_step x b p p some (omega arith) sound
-      ∙ ap (behind p) (path_follows (next_at x.unit p) to ps rest)
+      ∙ ap (behind_place p) (path_follows (next_at x.unit p) to ps rest)
 
   pub path_cost : (from to : ℕ) (ps : List ℕ) (units : ℕ → ℕ) (places : List ℕ) → IsPath x b from ps to → follow x b from from ≡ Ok places
       → (rest : List ℕ) × (follow x b to to ≡ Ok rest) × (places ≡ ps ++ rest) × (sum_by units places ≡ sum_by units ps + sum_by units rest)
@@ -46,17 +46,17 @@ filter_same kept ps p gone =
     filter-append kept ps (p ∷ []) ∙ ap (λ (qs : List ℕ). filter kept ps ++ qs) (cond-false (kept p) (p ∷ []) [] gone) ∙ append-nil (filter kept ps)
 
 pub last_more : (unit : ℕ → List ℕ) (kept : ℕ → Bool) (done : List ℕ) (at : ℕ) (before now : Option Head) (h : Head)
-    → IsLast unit (filter kept done) before → IsHead unit h → h.at ≡ at → now ≡ cond (kept h.at) (Some h) before
-    → IsLast unit (filter kept (done ++ at ∷ [])) now
+    → IsLastPlace unit (filter kept done) before → IsRecordHead unit h → h.at ≡ at → now ≡ cond (kept h.at) (Some h) before
+    → IsLastPlace unit (filter kept (done ++ at ∷ [])) now
 last_more unit kept done at before now h last head here is = elim (cases_Bool (kept at)) [
   | inl stays ↦
       let now_is : now ≡ Some h = is ∙ cond-true (kept h.at) (Some h) before (ap kept here ∙ stays) in
-      subst (IsLast unit (filter kept (done ++ at ∷ []))) (sym now_is)
+      subst (IsLastPlace unit (filter kept (done ++ at ∷ []))) (sym now_is)
       (head, (filter kept done, filter_last kept done at stays ∙ ap (λ (p : ℕ). filter kept done ++ p ∷ []) (sym here)))
   | inr gone ↦
       let now_is : now ≡ before = is ∙ cond-false (kept h.at) (Some h) before (ap kept here ∙ gone) in
-      subst (IsLast unit (filter kept (done ++ at ∷ []))) (sym now_is)
-      (subst (λ (qs : List ℕ). IsLast unit qs before) (sym (filter_same kept done at gone)) last)
+      subst (IsLastPlace unit (filter kept (done ++ at ∷ []))) (sym now_is)
+      (subst (λ (qs : List ℕ). IsLastPlace unit qs before) (sym (filter_same kept done at gone)) last)
 ]
 
 pub none_more : (unit : ℕ → List ℕ) (kept : ℕ → Bool) (row : Row) (done : List ℕ) (at : ℕ) → HasNone unit kept row done
@@ -101,7 +101,7 @@ pub record Splits (x : Index) (b : ℕ) (kept : ℕ → Bool) (s : Spot) : Type 
   pub before : List ℕ
   pub after : List ℕ
   pub are : filter kept (places_of x b) ≡ before ++ s.at ∷ after
-  pub last : IsLast x.unit before s.before
+  pub last : IsLastPlace x.unit before s.before
   pub next : first_of after ≡ s.behind
 
 first_kept : (x : Index) (b : ℕ) (kept : ℕ → Bool) (at : ℕ) (ps : List ℕ) → IsChain x b at ps → (at ≡ 0) ⊎ (kept at ≡ true)

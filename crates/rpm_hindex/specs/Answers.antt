@@ -1,5 +1,6 @@
 -- What the calls answer.
-use Rattle.std.specs.Prelude.{◌≡◌, ℕ, ◌+◌, ◌*◌, ◌<◌, ◌≤◌, ◌⊎◌, List, [], ◌∷◌, length, Bool, ◌&&◌, ◌==◌, Option, Some, None, Result, Ok, Err, slice_index_or}
+use Rattle.std.specs.Prelude.{◌≡◌, ℕ, ◌+◌, ◌*◌, ◌<◌, ◌≤◌, ◌⊎◌, List, [], ◌∷◌, length, Bool, ◌&&◌, ◌==◌, Option, Some}
+use Rattle.std.specs.Prelude.{None, Result, Ok, Err, slice_index_or}
 use Rattle.std.specs.List.{count_by, sum_by}
 use Rattle.std.specs.Str.{bytes_eq}
 use Rattle.rpm_hindex.specs.declared.hits.Hit.{Hit}
@@ -66,14 +67,15 @@ FindIs P said (Ok hits) = HitsAre P said hits
 FindIs P said (Err fault) = IsFaultOf said fault
 
 -- a fault that says nothing of the index
-abbrev pub IsOutside : FindFault → Type 0
-IsOutside (BadIndex unit) = ⊥
-IsOutside DiskFault = Unit {0}
-IsOutside NoMemory = Unit {0}
+abbrev pub IsOutsideIndex : FindFault → Type 0
+IsOutsideIndex (BadIndex unit) = ⊥
+IsOutsideIndex DiskFault = Unit {0}
+IsOutsideIndex NoMemory = Unit {0}
 
 -- the hits with that of a row more, where the row has this kind and key
 abbrev pub AddsHit : ℕ → List ℕ → Row → List Hit → List Hit → Type 0
-AddsHit kind key row old new = (hit : Hit) → times_hit hit new ≡ times_hit hit old + times (row_of_hit kind key hit) (row ∷ [])
+AddsHit kind key row old new =
+    (hit : Hit) → times_hit hit new ≡ times_hit hit old + times (row_of_hit kind key hit) (row ∷ [])
 
 -- a count rises by at most 16 for each unit of the chain's records, where the chain is well formed
 abbrev pub ChainCosts : Result (List ℕ) ℕ → (ℕ → ℕ) → ℕ → ℕ → Type 0

@@ -16,7 +16,8 @@ chain_bytes x bucket = 16 + 16 * sum_by (units_at x.unit) (places_of x bucket)
 abbrev pub chains_bytes : Index → List Row → ℕ
 chains_bytes x rows = sum_by (λ (r : Row). chain_bytes x (bucket_of x.buckets r)) rows
 
--- a change after which there are at most two records a bucket, at most so many units, and no more units without records than with
+-- a change after which there are at most two records a bucket, at most so many units, and no more units without records
+-- than with
 pub record StaysWithin (limit : ℕ) (drops adds : List Row) (buckets : ℕ) (file : Units) : Type 0 where
   pub rows : List Row
   pub changed : HasChanged drops adds (records buckets file) rows

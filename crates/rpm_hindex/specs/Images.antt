@@ -2,10 +2,10 @@
 use Rattle.std.specs.Prelude.{◌≡◌, ◌⊎◌, ◌≤◌, ℕ, List, [], ◌∷◌, length, IsTrue}
 use Rattle.rpm_outside.specs.declared.disk.Disk as disk
 use Rattle.rpm_outside.specs.declared.disk.File.TheVariants.{Idx}
-use Rattle.rpm_outside.specs.Files.{Units, unit_at, blank, put}
-use Rattle.rpm_outside.specs.Frame.{IsSettled}
+use Rattle.rpm_outside.specs.Files.{Units, unit_at, blank, with_units}
+use Rattle.rpm_outside.specs.Frame.{IsDurable}
 use Rattle.rpm_hindex.specs.Index.{records}
-use Rattle.rpm_hindex.specs.State.{State, Keeps, sealed, buckets_of}
+use Rattle.rpm_hindex.specs.State.{IndexState, KeepsIndexValue, sealed, buckets_of}
 use Rattle.rpm_hindex.specs.Whole.{IsWellFormed}
 
 -- unit 0 is that of the file before
@@ -22,7 +22,7 @@ VoidOrSameSeal from image = (unit_at image 0 ≡ blank) ⊎ (unit_at image 0 ≡
 
 -- the file before, or the same with this unit in front, where it has a unit 0
 abbrev pub SealedOrSame : List ℕ → Units → Units → Type 0
-SealedOrSame unit from image = 1 ≤ length from → (image ≡ from) ⊎ (image ≡ put 0 (unit ∷ []) from)
+SealedOrSame unit from image = 1 ≤ length from → (image ≡ from) ⊎ (image ≡ with_units 0 (unit ∷ []) from)
 
 -- a file that is sealed at this generation, and well formed with the same records
 pub record IsSealed (generation buckets : ℕ) (from image : Units) : Type 0 where
@@ -33,7 +33,7 @@ pub record IsSealed (generation buckets : ℕ) (from image : Units) : Type 0 whe
 
 module _ {D : Type 0} (d : disk.Ghosts D) where
   -- the file is this one and durable, and the value keeps what it says
-  pub record Leaves (at : D) (state : State) (file : Units) : Type 0 where
-    pub kept : IsTrue d.tells → Keeps (d.files at).idx state
+  pub record IsDurableAs (at : D) (state : IndexState) (file : Units) : Type 0 where
+    pub kept : IsTrue d.tells → KeepsIndexValue (d.files at).idx state
     pub written : IsTrue d.tells → (d.files at).idx ≡ file
-    pub settled : IsTrue d.tells → IsSettled d Idx at
+    pub durable : IsTrue d.tells → IsDurable d Idx at

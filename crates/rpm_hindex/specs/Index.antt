@@ -1,5 +1,6 @@
 -- The chains of an index, and the rows that they hold.
-use Rattle.std.specs.Prelude.{ℕ, zero, suc, ◌+◌, ◌/◌, ◌%◌, ◌^◌, List, [], ◌∷◌, take, map, Bool, ◌&&◌, ◌||◌, ◌==◌, nat_lt, nat_le, if◌then◌else◌, Result, Ok, Err}
+use Rattle.std.specs.Prelude.{ℕ, zero, suc, ◌+◌, ◌/◌, ◌%◌, ◌^◌, List, [], ◌∷◌, take, map, Bool, ◌&&◌, ◌||◌, ◌==◌}
+use Rattle.std.specs.Prelude.{nat_lt, nat_le, if◌then◌else◌, Result, Ok, Err}
 use Rattle.std.specs.List.{flat_map, range_with_len}
 use Rattle.rpm_outside.specs.Files.{Units, unit_at, bytes_of}
 use Rattle.rpm_outside.specs.Words.{word}
@@ -28,17 +29,24 @@ abbrev pub units_at : (ℕ → List ℕ) → ℕ → ℕ
 units_at unit at = record_units (length_at unit at)
 
 -- a count of units from this one on
-abbrev pub run : (ℕ → List ℕ) → ℕ → ℕ → Units
-run unit from zero = []
-run unit from (suc n) = unit from ∷ run unit (from + 1) n
+abbrev pub units_from : (ℕ → List ℕ) → ℕ → ℕ → Units
+units_from unit from zero = []
+units_from unit from (suc n) = unit from ∷ units_from unit (from + 1) n
 
 -- the key of a record
 abbrev pub key_at : (ℕ → List ℕ) → ℕ → List ℕ
-key_at unit at = take (length_at unit at) (bytes_of (run unit (at + 1) (key_units (length_at unit at))))
+key_at unit at = take (length_at unit at) (bytes_of (units_from unit (at + 1) (key_units (length_at unit at))))
 
 -- the row of a record
 unfoldable pub row_at : (ℕ → List ℕ) → ℕ → Row
-row_at unit at = record { kind = word 1 (unit at) / 2 ^ 28; key = key_at unit at; number = word 2 (unit at); place = word 3 (unit at) }
+row_at unit at =
+    record {
+      kind = word 1 (unit at) / 2 ^ 28;
+      key = key_at unit at;
+      number = word 2 (unit at);
+      place = word 3
+          (unit at);
+    }
 
 -- ---- chains
 
@@ -56,23 +64,24 @@ is_link x at = (at == 0) || (nat_le (first_record x.buckets) at && nat_lt at x.u
 
 -- a record that can be in the chain of this bucket, by its first unit
 abbrev pub is_placed : Index → ℕ → Bool
-is_placed x at = is_link x (next_at x.unit at) && (nat_lt (next_at x.unit at) at && nat_le (at + units_at x.unit at) x.used)
+is_placed x at =
+    is_link x (next_at x.unit at) && (nat_lt (next_at x.unit at) at && nat_le (at + units_at x.unit at) x.used)
 
 -- whether a record stands in what is used, links to an earlier one and has its own bucket
 unfoldable pub is_sound : Index → ℕ → ℕ → Bool
 is_sound x bucket at = is_placed x at && (bucket_of x.buckets (row_at x.unit at) == bucket)
 
 -- a chain with one more place in front
-abbrev pub behind : ℕ → Result (List ℕ) ℕ → Result (List ℕ) ℕ
-behind at (Ok places) = Ok (at ∷ places)
-behind at (Err unit) = Err unit
+abbrev pub behind_place : ℕ → Result (List ℕ) ℕ → Result (List ℕ) ℕ
+behind_place at (Ok places) = Ok (at ∷ places)
+behind_place at (Err unit) = Err unit
 
 -- the places of the records from this one on, or the first that breaks a rule; n is at least the place
 abbrev pub follow : Index → ℕ → ℕ → ℕ → Result (List ℕ) ℕ
 follow x bucket zero at = Ok []
 follow x bucket (suc n) at =
     if at == 0 then Ok []
-    else if is_sound x bucket at then behind at (follow x bucket n (next_at x.unit at)) else Err at
+    else if is_sound x bucket at then behind_place at (follow x bucket n (next_at x.unit at)) else Err at
 
 -- the chain of a bucket: the places of its records, or the unit of its first fault
 unfoldable pub chain : Index → ℕ → Result (List ℕ) ℕ

@@ -3,11 +3,11 @@ use Rattle.std.specs.Prelude.{◌≡◌, ◌⊎◌, ℕ, ◌+◌, List, drop}
 use Rattle.std.specs.List.{All, Contains}
 use Rattle.rpm_outside.specs.Files.{bytes_of}
 use Rattle.rpm_hindex.specs.Sizes.{key_units}
-use Rattle.rpm_hindex.specs.Index.{Index, all_places, length_at, row_at, run}
+use Rattle.rpm_hindex.specs.Index.{Index, all_places, length_at, row_at, units_from}
 
 -- the bytes of a record after its key
 abbrev pub past_key : (ℕ → List ℕ) → ℕ → List ℕ
-past_key unit at = drop (length_at unit at) (bytes_of (run unit (at + 1) (key_units (length_at unit at))))
+past_key unit at = drop (length_at unit at) (bytes_of (units_from unit (at + 1) (key_units (length_at unit at))))
 
 -- a record's bytes after its key are zeros
 abbrev pub IsPadded : (ℕ → List ℕ) → ℕ → Type 0
@@ -17,7 +17,8 @@ IsPadded unit at = All (λ (b : ℕ). b ≡ 0) (past_key unit at)
 abbrev pub ArePadded : Index → Type 0
 ArePadded x = (at : ℕ) → Contains (all_places x) at → IsPadded x.unit at
 
--- a record of an index that stood in an earlier one, at the same place, with the same row and the same bytes after its key
+-- a record of an index that stood in an earlier one, at the same place, with the same row and the same bytes after its
+-- key
 pub record Remains (old new : Index) (at : ℕ) : Type 0 where
   pub stood : Contains (all_places old) at
   pub row : row_at new.unit at ≡ row_at old.unit at

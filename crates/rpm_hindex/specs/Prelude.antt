@@ -6,39 +6,42 @@ pub use Rattle.std.specs.List.Sorted.{IsStrictlySortedBy}
 pub use Rattle.std.specs.Ordering.{nat_cmp}
 pub use Rattle.rpm_outside.specs.Changes.{IsSame}
 pub use Rattle.rpm_outside.specs.Crash.{Torn}
-pub use Rattle.rpm_outside.specs.Files.{Units, blank, bytes_of, put, unit_at, units_of}
-pub use Rattle.rpm_outside.specs.Frame.{IsSettled, Reads, ReadsAtOr, ReadsOr, Writes, WritesOr}
+pub use Rattle.rpm_outside.specs.Files.{Units, blank, bytes_of, with_units, unit_at, units_of}
+pub use Rattle.rpm_outside.specs.Frame.{IsDurable, ReadsOnly, ReadsAtOr, ReadsOr, Writes, WritesOr}
 pub use Rattle.rpm_outside.specs.Words.{bytes_of_word, unit_of_words, word}
 pub use Rattle.rpm_outside.specs.declared.disk.File.{File}
 pub use Rattle.rpm_outside.specs.declared.disk.File.TheVariants.{Idx}
-pub use Rattle.rpm_hindex.specs.Answers.{AddsHit, AreHits, AsOften, ChainCosts, FindIs, IsFaultOf, IsOutside}
+pub use Rattle.rpm_hindex.specs.Answers.{AddsHit, AreHits, AsOften, ChainCosts, FindIs, IsFaultOf, IsOutsideIndex}
 pub use Rattle.rpm_hindex.specs.Answers.{IsRising, has_key, hit_at, is_wanted, times_hit}
 pub use Rattle.rpm_hindex.specs.Costs.{StaysInPlace, StaysWithin, chains_bytes}
-pub use Rattle.rpm_hindex.specs.Images.{IsSealed, Leaves, SameSeal, SealedOrSame, VoidOrSame, VoidOrSameSeal}
+pub use Rattle.rpm_hindex.specs.Images.{IsSealed, IsDurableAs, SameSeal, SealedOrSame, VoidOrSame, VoidOrSameSeal}
 pub use Rattle.rpm_hindex.specs.Index.{Index, bucket_unit, chain, follow, index_in, is_link, is_placed, is_sound}
-pub use Rattle.rpm_hindex.specs.Index.{length_at, records, row_at, run, units_at}
+pub use Rattle.rpm_hindex.specs.Index.{length_at, records, row_at, units_from, units_at}
 pub use Rattle.rpm_hindex.specs.Padding.{AddsPadded, ArePadded}
 pub use Rattle.rpm_hindex.specs.Plans.{ArePatches, CanWrite, IsAfter, IsChanged, IsPaddedPlan, IsPlanFor, LeavesOrder}
-pub use Rattle.rpm_hindex.specs.Plans.{WritesPadded, after, after_tail, after_units, buckets_after, patch_at}
+pub use Rattle.rpm_hindex.specs.Plans.{WritesPadded, file_after, after_tail, after_units, buckets_after, patch_at}
 pub use Rattle.rpm_hindex.specs.Prepared.{IsPrepared, IsUnprepared}
-pub use Rattle.rpm_hindex.specs.Refusals.{HasRoomFor, IsBad, IsBadFor, IsFaulty}
-pub use Rattle.rpm_hindex.specs.Rewrites.{IsFull, IsRefused, IsRewritten}
+pub use Rattle.rpm_hindex.specs.Refusals.{HasUnitsFor, IsBad, IsBadFor, IsFaulty}
+pub use Rattle.rpm_hindex.specs.Rewrites.{IsIndexFull, IsRebuildRefused, IsRebuiltIndex}
 pub use Rattle.rpm_hindex.specs.Rows.{Row, SameRows, fnv, hash_of, row_nth}
 pub use Rattle.rpm_hindex.specs.Sizes.{bucket_count, first_record, index_units, is_bucket_count, live_of}
 pub use Rattle.rpm_hindex.specs.Sizes.{record_units, units_for}
-pub use Rattle.rpm_hindex.specs.State.{Keeps, State, buckets_of, is_current, is_headed, is_in_order, is_ordered}
-pub use Rattle.rpm_hindex.specs.State.{seal_unit, state_of}
+pub use Rattle.rpm_hindex.specs.State.{KeepsIndexValue, IndexState, buckets_of, is_current, is_headed, is_in_order}
+pub use Rattle.rpm_hindex.specs.State.{is_ordered}
+pub use Rattle.rpm_hindex.specs.State.{seal_unit, opened_state}
 pub use Rattle.rpm_hindex.specs.Whole.{IsWellFormed}
-pub use Rattle.rpm_hindex.specs.inner.Changes.{Begins, CanBegin, CanGo, Drops, HasFault, HasNoFault, HasWord, IsChainFault, IsFresh}
+pub use Rattle.rpm_hindex.specs.inner.Changes.{IsUnchanged, CanBegin, CanGo, DropOfOne, HasFault, HasNoFault, HasWord}
+pub use Rattle.rpm_hindex.specs.inner.Changes.{IsChainFault, IsFreshChange}
 pub use Rattle.rpm_hindex.specs.inner.Changes.{IsHonest, IsOther, IsScratchOf, IsStarted, IsTooLarge}
 pub use Rattle.rpm_hindex.specs.inner.Changes.{IsWorkOf, Puts, PutsWithin, SetsNext, Unlinks}
 pub use Rattle.rpm_hindex.specs.inner.Changes.{is_kept, kept_in, kept_of, patch_of, unit_after}
-pub use Rattle.rpm_hindex.specs.inner.Drafts.{IsDraft, IsImage}
+pub use Rattle.rpm_hindex.specs.inner.Drafts.{IsDraft, IsDraftOf}
 pub use Rattle.rpm_hindex.specs.inner.Finds.{FindsFrom, FindsRow}
-pub use Rattle.rpm_hindex.specs.inner.Making.{padding, record_of}
-pub use Rattle.rpm_hindex.specs.inner.Ongoing.{CanStart, DropsRows, GoesOn, Grows, HasAdded, IsDropFault, LeavesWhole}
-pub use Rattle.rpm_hindex.specs.inner.Ongoing.{index_of, one_row, row_with}
-pub use Rattle.rpm_hindex.specs.inner.Records.{CanRead, IsOpen, ReadsChain, ReadsPath, index_at}
-pub use Rattle.rpm_hindex.specs.inner.Spots.{FallsTo, IsAhead, IsHead, IsHeadWithin}
-pub use Rattle.rpm_hindex.specs.inner.Spots.{IsMet, IsNext, IsPath, OnWay, PathCosts, SkipsTo}
+pub use Rattle.rpm_hindex.specs.inner.Making.{key_padding, record_of}
+pub use Rattle.rpm_hindex.specs.inner.Ongoing.{CanStart, DropsRows, IsOngoing, Grows, HasAdded, IsDropFault}
+pub use Rattle.rpm_hindex.specs.inner.Ongoing.{LeavesWhole}
+pub use Rattle.rpm_hindex.specs.inner.Ongoing.{index_of_change, one_row, row_with}
+pub use Rattle.rpm_hindex.specs.inner.Records.{CanRead, HasBuckets, ReadsChain, ReadsPath, index_at}
+pub use Rattle.rpm_hindex.specs.inner.Spots.{FallsTo, IsRecordAhead, IsRecordHead, IsHeadWithin}
+pub use Rattle.rpm_hindex.specs.inner.Spots.{IsMet, IsNextUnit, IsPath, OnWay, PathCosts, SkipsTo}
 pub use Rattle.rpm_hindex.specs.inner.Starts.{IsStart, StandWithin, StandsWithin}

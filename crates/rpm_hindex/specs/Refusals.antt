@@ -13,13 +13,14 @@ use Rattle.rpm_hindex.specs.Index.{index_in, chain, all_places, units_at, record
 -- a fault for want of room tells what the rows need that are those of a file with a change, which is too much
 abbrev pub IsTooLargeFor : List Row → List Row → List Row → PrepareFault → Type 0
 IsTooLargeFor drops adds old (BadIndex unit) = Unit {0}
-IsTooLargeFor drops adds old (IndexFull needed) = (2 ^ 28 < needed) × ((new : List Row) → HasChanged drops adds old new → needed ≡ units_for new)
+IsTooLargeFor drops adds old (IndexFull needed) = (2 ^ 28 < needed)
+    × ((new : List Row) → HasChanged drops adds old new → needed ≡ units_for new)
 IsTooLargeFor drops adds old DiskFault = Unit {0}
 IsTooLargeFor drops adds old NoMemory = Unit {0}
 
 -- rows that are those of a file with a change need no more units than a file has
-abbrev pub HasRoomFor : List Row → List Row → List Row → Type 0
-HasRoomFor drops adds old = (new : List Row) → HasChanged drops adds old new → units_for new ≤ 2 ^ 28
+abbrev pub HasUnitsFor : List Row → List Row → List Row → Type 0
+HasUnitsFor drops adds old = (new : List Row) → HasChanged drops adds old new → units_for new ≤ 2 ^ 28
 
 -- the chains hold more records, or more units, than unit 1 counts
 abbrev pub HoldsMore : ℕ → Units → Type 0
@@ -27,7 +28,8 @@ HoldsMore buckets file =
     (word 1 (unit_at file 1) < length (all_places (index_in buckets file)))
     ⊎ (word 2 (unit_at file 1) < sum_by (units_at (unit_at file)) (all_places (index_in buckets file)))
 
--- some rows, each at most as often as it is dropped and as the file has it, are more than unit 1 counts, or have more units
+-- some rows, each at most as often as it is dropped and as the file has it, are more than unit 1 counts, or have more
+-- units
 pub record DropsMore (drops : List Row) (buckets : ℕ) (file : Units) : Type 0 where
   pub gone : List Row
   pub dropped : (row : Row) → times row gone ≤ times row drops
@@ -43,7 +45,8 @@ IsFaulty buckets file NoMemory = Unit {0}
 
 -- a refusal blames a unit for a fault in a chain, or unit 1 where the change drops more than that counts
 abbrev pub IsBadFor : List Row → ℕ → Units → PrepareFault → Type 0
-IsBadFor drops buckets file (BadIndex unit) = IsFaulty buckets file (BadIndex unit) ⊎ ((unit ≡ 1) × DropsMore drops buckets file)
+IsBadFor drops buckets file (BadIndex unit) = IsFaulty buckets file (BadIndex unit)
+    ⊎ ((unit ≡ 1) × DropsMore drops buckets file)
 IsBadFor drops buckets file (IndexFull needed) = Unit {0}
 IsBadFor drops buckets file DiskFault = Unit {0}
 IsBadFor drops buckets file NoMemory = Unit {0}

@@ -5,24 +5,24 @@ use Rattle.rpm_hindex.specs.declared.faults.RewriteFault.{RewriteFault}
 use Rattle.rpm_hindex.specs.declared.faults.RewriteFault.TheVariants.{IndexFull, DiskFault, NoMemory}
 use Rattle.rpm_hindex.specs.Rows.{Row}
 use Rattle.rpm_hindex.specs.Sizes.{bucket_count, units_for}
-use Rattle.rpm_hindex.specs.State.{State, EndsInZero}
+use Rattle.rpm_hindex.specs.State.{IndexState, EndsInZero}
 use Rattle.rpm_outside.specs.Words.{word}
 
 -- the fault that the file can't hold so many units, exactly where it can't
-abbrev pub IsFull : {T : Type 0} → ℕ → Result T RewriteFault → Type 0
-IsFull needed (Ok done) = needed ≤ 2 ^ 28
-IsFull needed (Err (IndexFull told)) = (2 ^ 28 < needed) × (told ≡ needed)
-IsFull needed (Err DiskFault) = needed ≤ 2 ^ 28
-IsFull needed (Err NoMemory) = needed ≤ 2 ^ 28
+abbrev pub IsIndexFull : {T : Type 0} → ℕ → Result T RewriteFault → Type 0
+IsIndexFull needed (Ok done) = needed ≤ 2 ^ 28
+IsIndexFull needed (Err (IndexFull told)) = (2 ^ 28 < needed) × (told ≡ needed)
+IsIndexFull needed (Err DiskFault) = needed ≤ 2 ^ 28
+IsIndexFull needed (Err NoMemory) = needed ≤ 2 ^ 28
 
 -- an answer before the first write
-abbrev pub IsRefused : RewriteFault → Type 0
-IsRefused (IndexFull needed) = Unit {0}
-IsRefused DiskFault = ⊥
-IsRefused NoMemory = Unit {0}
+abbrev pub IsRebuildRefused : RewriteFault → Type 0
+IsRebuildRefused (IndexFull needed) = Unit {0}
+IsRebuildRefused DiskFault = ⊥
+IsRebuildRefused NoMemory = Unit {0}
 
 -- the value of an index of these rows that isn't sealed, has the buckets that they need, and no dead unit
-pub record IsRewritten (rows : List Row) (state : State) : Type 0 where
+pub record IsRebuiltIndex (rows : List Row) (state : IndexState) : Type 0 where
   pub pending : state.pending ≡ bucket_count (length rows)
   pub voided : state.first ≡ blank
   pub size : word 0 state.second ≡ units_for rows

@@ -20,13 +20,14 @@ unfoldable pub is_bucket_count : ℕ → Bool
 is_bucket_count buckets = list_any (λ k. buckets == 64 * 2 ^ k) (range_with_len 0 22)
 
 -- a number, doubled until twice it is at least so many records; n is enough doublings
-abbrev pub doubled : ℕ → ℕ → ℕ → ℕ
-doubled zero buckets records = buckets
-doubled (suc n) buckets records = if nat_le records (2 * buckets) then buckets else doubled n (2 * buckets) records
+abbrev pub doubled_buckets : ℕ → ℕ → ℕ → ℕ
+doubled_buckets zero buckets records = buckets
+doubled_buckets (suc n) buckets records = if nat_le records (2 * buckets) then buckets
+    else doubled_buckets n (2 * buckets) records
 
 -- the least power of two that is at least 64 and at least half the records
 unfoldable pub bucket_count : ℕ → ℕ
-bucket_count records = doubled records 64 records
+bucket_count records = doubled_buckets records 64 records
 
 -- the units of an index made from scratch
 abbrev pub index_units : ℕ → ℕ → ℕ

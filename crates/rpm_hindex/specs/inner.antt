@@ -6,6 +6,5 @@ pub mod Making
 pub mod Ongoing
 pub mod Packed
 pub mod Records
-pub mod RowLaws
 pub mod Spots
 pub mod Starts

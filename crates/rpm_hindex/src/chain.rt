@@ -1,7 +1,7 @@
 //! The chain of a bucket.
 
 ghost use Rattle.std.specs.Prelude.{◌≡◌, ℕ, ◌+◌, ◌%◌, ◌^◌, ◌≤◌, ◌<◌, IsTrue, true, length, map, List, IfOk, IfErr, OnOk, Err};
-ghost use Rattle.rpm_hindex.specs.Prelude.{AddsHit, AreHits, AsOften, bucket_unit, buckets_of, CanRead, chain, ChainCosts, File, FindIs, follow, has_key, hash_of, Idx, Index, index_at, index_in, is_in_order, is_link, is_placed, IsFaultOf, IsNext, IsRising, IsWellFormed, Keeps, ReadsAtOr, ReadsChain, ReadsOr, records, Row, row_at, times_hit, unit_at, units_at, word};
+ghost use Rattle.rpm_hindex.specs.Prelude.{AddsHit, AreHits, AsOften, bucket_unit, buckets_of, CanRead, chain, ChainCosts, File, FindIs, follow, has_key, hash_of, Idx, Index, index_at, index_in, is_in_order, is_link, is_placed, IsFaultOf, IsNextUnit, IsRising, IsWellFormed, KeepsIndexValue, ReadsAtOr, ReadsChain, ReadsOr, records, Row, row_at, times_hit, unit_at, units_at, word};
 
 use crate::faults::FindFault;
 use crate::heads::{Met, meet};
@@ -52,7 +52,7 @@ pub fn read_bucket<D: Disk>(disk: &mut D, extent: Extent, bucket: u32) -> Result
     ensures words { IfOk result (λ b. IsTrue D.tells → b.words ≡ unit_at (D.files disk.old).idx (bucket_unit bucket)) }
     ensures word { IfOk result (λ b. IsTrue D.tells → (b.at ≡ (index_at D.Disk disk.old extent).head bucket)
         × (is_link (index_at D.Disk disk.old extent) b.at ≡ true)) }
-    ensures linked { IfOk result (λ b. IsNext extent.buckets extent.used b.at) }
+    ensures linked { IfOk result (λ b. IsNextUnit extent.buckets extent.used b.at) }
     ensures fault { IfErr result (λ e. IsTrue D.tells → IsFaultOf (chain (index_at D.Disk disk.old extent) bucket) e) }
     ensures reads { ReadsOr D.Disk Idx 16 (result ≡ Err FindFault.DiskFault) disk.old disk.new }
 {
@@ -179,8 +179,8 @@ impl Hindex {
         key: &[u8],
     ) -> Result<Hits, FindFault>
         requires order { is_in_order self.now ≡ true }
-        requires keeps { IsTrue D.tells → Keeps (D.files disk.old).idx self.now }
-        ensures kept { IsTrue D.tells → Keeps (D.files disk.new).idx self.now }
+        requires keeps { IsTrue D.tells → KeepsIndexValue (D.files disk.old).idx self.now }
+        ensures kept { IsTrue D.tells → KeepsIndexValue (D.files disk.new).idx self.now }
         ensures told { IsTrue D.tells → FindIs (λ places hits. AreHits kind key.now
             (map (row_at (unit_at (D.files disk.old).idx)) places) hits)
             (chain (index_in (buckets_of self.now.first) (D.files disk.old).idx)

@@ -1,7 +1,7 @@
 //! A change that is being worked out.
 
 ghost use Rattle.std.specs.Prelude.{◌≡◌, ℕ, ◌+◌, ◌*◌, ◌/◌, ◌%◌, ◌^◌, ◌≤◌, ◌<◌, IsTrue, length, List, Result, OnOk, IfErr, Err};
-ghost use Rattle.rpm_hindex.specs.Prelude.{Begins, CanBegin, CanGo, CanStart, contains, Drops, DropsRows, get, GoesOn, Grows, HasAdded, hash_of, Idx, is_kept, IsChainFault, IsDropFault, IsFaultOf, IsFaulty, IsHonest, IsOpen, IsOther, nat_cmp, one_row, Puts, ReadsAtOr, ReadsChain, ReadsOr, record_units};
+ghost use Rattle.rpm_hindex.specs.Prelude.{IsUnchanged, CanBegin, CanGo, CanStart, contains, DropOfOne, DropsRows, get, IsOngoing, Grows, HasAdded, hash_of, Idx, is_kept, IsChainFault, IsDropFault, IsFaultOf, IsFaulty, IsHonest, HasBuckets, IsOther, nat_cmp, one_row, Puts, ReadsAtOr, ReadsChain, ReadsOr, record_units};
 
 use crate::chain::{Extent, is_link};
 use crate::faults::{FindFault, PrepareFault};
@@ -42,7 +42,7 @@ pub fn prepare_fault(fault: FindFault) -> PrepareFault
 
 /// Puts a place among those that are dropped.
 fn put_dropped(dropped: &mut BTreeSet<u32>, at: u32) -> Result<(), PrepareFault>
-    ensures put { OnOk result (Drops (λ q. contains nat_cmp dropped.old q) (λ q. contains nat_cmp dropped.new q) at) }
+    ensures put { OnOk result (DropOfOne (λ q. contains nat_cmp dropped.old q) (λ q. contains nat_cmp dropped.new q) at) }
     ensures memory { IfErr result (λ e. e ≡ PrepareFault.NoMemory) }
 {
     dropped.insert(at).map_err(|_| PrepareFault::NoMemory)?;
@@ -70,7 +70,7 @@ impl Change {
     pub fn new(alloc: Global, extent: Extent, records: u32, live: u32) -> Change
         requires { CanBegin extent records live }
         ensures go { CanGo result }
-        ensures begins { Begins extent records live result }
+        ensures begins { IsUnchanged extent records live result }
     {
         Change {
             extent,
@@ -92,10 +92,10 @@ impl Change {
     ) -> Result<(), PrepareFault>
         requires go { CanGo self.old }
         requires short { length row.key.now < 2 ^ 28 }
-        requires open { IsTrue D.tells → IsOpen self.old.extent (D.files disk.old).idx }
+        requires open { IsTrue D.tells → HasBuckets self.old.extent (D.files disk.old).idx }
         requires starts { CanStart D.Disk disk.old self.old.extent (is_kept (λ p. contains nat_cmp self.old.dropped p))
             (λ b. get nat_cmp starts.old b) }
-        ensures keeps { OnOk result (GoesOn self.old self.new) }
+        ensures keeps { OnOk result (IsOngoing self.old self.new) }
         ensures other { IfErr result (λ e. IsOther e) }
         ensures starts { OnOk result (CanStart D.Disk disk.old self.old.extent
             (is_kept (λ p. contains nat_cmp self.new.dropped p)) (λ b. get nat_cmp starts.new b)) }
@@ -141,7 +141,7 @@ impl Change {
         requires short { length row.key.now < 2 ^ 28 }
         requires room { self.old.extent.used + length self.old.tail.items / 16 + record_units (length row.key.now) ≤ 2 ^ 28 }
         requires count { self.old.records < 2 * self.old.extent.buckets }
-        requires open { IsTrue D.tells → IsOpen self.old.extent (D.files disk.old).idx }
+        requires open { IsTrue D.tells → HasBuckets self.old.extent (D.files disk.old).idx }
         ensures grows { OnOk result (Grows self.old self.new 1 (record_units (length row.entry.key.now))) }
         ensures other { IfErr result (λ e. IsOther e) }
         ensures added { OnOk result (IsTrue D.tells → HasAdded (D.files disk.old).idx

@@ -1,7 +1,7 @@
 //! The first unit of a record, and whether the record is looked for.
 
 ghost use Rattle.std.specs.Prelude.{◌≡◌, ℕ, ◌+◌, ◌*◌, ◌/◌, ◌%◌, ◌^◌, ◌≤◌, ◌<◌, ◌⊎◌, IsTrue, true, false, length, IfOk, IfErr, Err, Some, None};
-ghost use Rattle.rpm_hindex.specs.Prelude.{CanRead, FallsTo, follow, has_key, hash_of, Idx, index_at, is_placed, is_sound, is_wanted, IsAhead, IsFaultOf, IsHead, IsMet, length_at, ReadsAtOr, ReadsOr, row_at, unit_at, units_at};
+ghost use Rattle.rpm_hindex.specs.Prelude.{CanRead, FallsTo, follow, has_key, hash_of, Idx, index_at, is_placed, is_sound, is_wanted, IsRecordAhead, IsFaultOf, IsRecordHead, IsMet, length_at, ReadsAtOr, ReadsOr, row_at, unit_at, units_at};
 
 use crate::chain::{Extent, is_placed};
 use crate::faults::FindFault;
@@ -41,7 +41,7 @@ pub fn read_head<D: Disk>(disk: &mut D, extent: Extent, at: u32) -> Result<Ahead
     requires within { at < extent.used }
     ensures here { IfOk result (λ a. a.head.at ≡ at) }
     ensures next { IfOk result (λ a. FallsTo extent.buckets extent.used at a.next) }
-    ensures ahead { IfOk result (λ a. IsTrue D.tells → IsAhead (index_at D.Disk disk.old extent) at a) }
+    ensures ahead { IfOk result (λ a. IsTrue D.tells → IsRecordAhead (index_at D.Disk disk.old extent) at a) }
     ensures fault { IfErr result (λ e. IsTrue D.tells → (b : ℕ) → IsFaultOf (follow (index_at D.Disk disk.old extent) b at at) e) }
     ensures reads { ReadsOr D.Disk Idx 16 (result ≡ Err FindFault.DiskFault) disk.old disk.new }
 {
@@ -103,7 +103,7 @@ pub fn meets_key<D: Disk>(
     requires open { CanRead D.Disk disk.old extent }
     requires some_at { 0 < head.at }
     requires placed { IsTrue D.tells → is_placed (index_at D.Disk disk.old extent) head.at ≡ true }
-    requires head { IsTrue D.tells → IsHead (unit_at (D.files disk.old).idx) head }
+    requires head { IsTrue D.tells → IsRecordHead (unit_at (D.files disk.old).idx) head }
     requires bucket { hash_of kind key.now % extent.buckets ≡ bucket }
     ensures same { IfOk result (λ is. IsTrue D.tells → is ≡ has_key kind key.now (row_at (unit_at (D.files disk.old).idx) head.at)) }
     ensures sound { IfOk result (λ is. IsTrue D.tells → is_sound (index_at D.Disk disk.old extent) bucket head.at ≡ true) }

@@ -1,7 +1,7 @@
 //! An index made from scratch in memory.
 
 ghost use Rattle.std.specs.Prelude.{◌≡◌, ◌≢◌, ◌+◌, ◌*◌, ◌/◌, ◌%◌, ◌^◌, ◌≤◌, ◌<◌, ◌++◌, [], List, length, drop, true, OnOk, IfOk, Err};
-ghost use Rattle.rpm_hindex.specs.Prelude.{bucket_count, bytes_of_word, first_record, flat_map, is_bucket_count, IsDraft, IsFull, IsImage, live_of, one_row, record_units, Row, unit_of_words, units_for};
+ghost use Rattle.rpm_hindex.specs.Prelude.{bucket_count, bytes_of_word, first_record, flat_map, is_bucket_count, IsDraft, IsIndexFull, IsDraftOf, live_of, one_row, record_units, Row, unit_of_words, units_for};
 
 use crate::faults::RewriteFault;
 use crate::records::{UNITS, bucket_count, bucket_of, index_units, push_record, push_word};
@@ -125,7 +125,7 @@ impl Image {
         requires count { is_bucket_count buckets ≡ true }
         requires room { first_record buckets + live_of rows.now ≤ 2 ^ 28 }
         ensures buckets { IfOk result (λ image. image.buckets ≡ buckets) }
-        ensures made { IfOk result (λ image. IsImage rows.now buckets image.bytes.items) }
+        ensures made { IfOk result (λ image. IsDraftOf rows.now buckets image.bytes.items) }
     {
         let mut draft = Draft::new(alloc, buckets, rows.live() as usize)?;
         add_records(&mut draft, rows)?;
@@ -138,9 +138,9 @@ impl Image {
 
 /// The image of these rows, where the units that it needs are few enough.
 pub fn image_of(alloc: Global, rows: &Rows) -> Result<Image, RewriteFault>
-    ensures full { IsFull (units_for rows.now) result }
+    ensures full { IsIndexFull (units_for rows.now) result }
     ensures buckets { IfOk result (λ image. image.buckets ≡ bucket_count (length rows.now)) }
-    ensures made { IfOk result (λ image. IsImage rows.now (bucket_count (length rows.now)) image.bytes.items) }
+    ensures made { IfOk result (λ image. IsDraftOf rows.now (bucket_count (length rows.now)) image.bytes.items) }
     ensures disk { result ≢ Err RewriteFault.DiskFault }
 {
     let needed = index_units(rows.len() as u64, rows.live());

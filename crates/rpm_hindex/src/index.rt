@@ -1,7 +1,7 @@
 //! The index in Hindex.db.
 
 ghost use Rattle.std.specs.Prelude.{◌≡◌, ◌≤◌, ◌<◌, IsTrue, IfOk, length};
-ghost use Rattle.rpm_hindex.specs.Prelude.{Idx, is_current, is_headed, is_in_order, is_ordered, Keeps, Reads, State, state_of};
+ghost use Rattle.rpm_hindex.specs.Prelude.{Idx, is_current, is_headed, is_in_order, is_ordered, KeepsIndexValue, ReadsOnly, IndexState, opened_state};
 
 use crate::faults::IndexDiskFault;
 use crate::reads::unit_or_zeros;
@@ -21,10 +21,10 @@ pub struct Hindex {
 }
 
 impl Model for Hindex {
-    ghost use Rattle.rpm_hindex.specs.State.{State};
+    ghost use Rattle.rpm_hindex.specs.State.{IndexState};
     ghost use Rattle.std.specs.Prelude.{◌<◌, ◌≤◌};
 
-    ghost Value = { State };
+    ghost Value = { IndexState };
 
     ghost view = { λ s. record { first = s.first; second = s.second; units = s.units; pending = s.pending } };
 
@@ -68,10 +68,10 @@ impl Hindex {
     ///
     /// `IndexDiskFault` only where the disk's count of faults rose.
     pub fn open<D: Disk>(disk: &mut D) -> Result<Hindex, IndexDiskFault>
-        ensures state { IfOk result (λ index. IsTrue D.tells → index ≡ state_of (D.files disk.old).idx) }
-        ensures kept { IfOk result (λ index. IsTrue D.tells → Keeps (D.files disk.new).idx index) }
+        ensures state { IfOk result (λ index. IsTrue D.tells → index ≡ opened_state (D.files disk.old).idx) }
+        ensures kept { IfOk result (λ index. IsTrue D.tells → KeepsIndexValue (D.files disk.new).idx index) }
         ensures nothing_pending { IfOk result (λ index. index.pending ≡ 0) }
-        ensures reads { Reads D.Disk Idx 32 result disk.old disk.new }
+        ensures reads { ReadsOnly D.Disk Idx 32 result disk.old disk.new }
     {
         let units = disk.len(File::Idx).map_err(|_| IndexDiskFault)?;
         let first = unit_or_zeros(disk, units, 0).map_err(|_| IndexDiskFault)?;

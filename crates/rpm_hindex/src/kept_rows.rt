@@ -1,7 +1,7 @@
 //! The rows of chains that a change keeps, and those that it drops.
 
 ghost use Rattle.std.specs.Prelude.{◌≡◌, ◌+◌, ◌*◌, ◌/◌, ◌%◌, ◌^◌, ◌<◌, ◌++◌, ◌∷◌, [], IsTrue, true, map, IsOk, OnOk, IfErr, Err, if◌then◌else◌, ◌≤◌, false, length};
-ghost use Rattle.rpm_hindex.specs.Prelude.{CanGo, CanRead, chain, chains_bytes, contains, DropsRows, filter, FindIs, follow, GoesOn, HasFault, HasNoFault, Idx, index_at, index_in, is_kept, is_placed, is_sound, IsBad, IsBadFor, IsDropFault, IsFaultOf, IsFresh, IsHead, IsHonest, IsNext, IsOpen, IsOther, IsWellFormed, nat_cmp, ReadsAtOr, ReadsOr, row_at, unit_at};
+ghost use Rattle.rpm_hindex.specs.Prelude.{CanGo, CanRead, chain, chains_bytes, contains, DropsRows, filter, FindIs, follow, IsOngoing, HasFault, HasNoFault, Idx, index_at, index_in, is_kept, is_placed, is_sound, IsBad, IsBadFor, IsDropFault, IsFaultOf, IsFreshChange, IsRecordHead, IsHonest, IsNextUnit, HasBuckets, IsOther, IsWellFormed, nat_cmp, ReadsAtOr, ReadsOr, row_at, unit_at};
 
 use crate::chain::{Extent, read_bucket};
 use crate::change::{Change, prepare_fault};
@@ -28,7 +28,7 @@ fn push_row<D: Disk>(
     requires open { CanRead D.Disk disk.old extent }
     requires some_at { 0 < head.at }
     requires placed { IsTrue D.tells → is_placed (index_at D.Disk disk.old extent) head.at ≡ true }
-    requires head { IsTrue D.tells → IsHead (unit_at (D.files disk.old).idx) head }
+    requires head { IsTrue D.tells → IsRecordHead (unit_at (D.files disk.old).idx) head }
     ensures row { OnOk result (IsTrue D.tells
         → rows.new ≡ (if is_kept then rows.old ++ row_at (unit_at (D.files disk.old).idx) head.at ∷ [] else
         rows.old)) }
@@ -66,7 +66,7 @@ fn push_from<D: Disk>(
 ) -> Result<(), FindFault>
     requires some { 0 < extent.buckets }
     requires open { CanRead D.Disk disk.old extent }
-    requires linked { IsNext extent.buckets extent.used from }
+    requires linked { IsNextUnit extent.buckets extent.used from }
     ensures told { IsTrue D.tells → FindIs (λ places done. rows.new ≡ rows.old ++ map
         (row_at (unit_at (D.files disk.old).idx)) (filter (is_kept (λ p. contains nat_cmp dropped.now p)) places))
         (follow (index_at D.Disk disk.old extent) bucket from from) result }
@@ -131,8 +131,8 @@ fn drop_each<D: Disk>(
     rows: &Rows,
 ) -> Result<(), PrepareFault>
     requires go { CanGo change.old }
-    requires open { IsTrue D.tells → IsOpen change.old.extent (D.files disk.old).idx }
-    ensures keeps { OnOk result (GoesOn change.old change.new) }
+    requires open { IsTrue D.tells → HasBuckets change.old.extent (D.files disk.old).idx }
+    ensures keeps { OnOk result (IsOngoing change.old change.new) }
     ensures other { IfErr result (λ e. IsOther e) }
     ensures none { OnOk result (length rows.now ≡ 0 → change.new ≡ change.old) }
     ensures dropped { OnOk result (IsTrue D.tells → DropsRows (D.files disk.old).idx rows.now change.old change.new) }
@@ -184,14 +184,14 @@ pub fn drop_rows<D: Disk>(
     rows: &Rows,
 ) -> Result<(), PrepareFault>
     requires go { CanGo change.old }
-    requires open { IsTrue D.tells → IsOpen change.old.extent (D.files disk.old).idx }
-    ensures keeps { OnOk result (GoesOn change.old change.new) }
+    requires open { IsTrue D.tells → HasBuckets change.old.extent (D.files disk.old).idx }
+    ensures keeps { OnOk result (IsOngoing change.old change.new) }
     ensures other { IfErr result (λ e. IsOther e) }
     ensures none { OnOk result (length rows.now ≡ 0 → change.new ≡ change.old) }
     ensures dropped { OnOk result (IsTrue D.tells → DropsRows (D.files disk.old).idx rows.now change.old change.new) }
     ensures bad { IfErr result (λ e. IsTrue D.tells → IsHonest change.old (D.files disk.old).idx
         → IsBad change.old.extent.buckets (D.files disk.old).idx e) }
-    ensures counts { IfErr result (λ e. IsTrue D.tells → IsFresh change.old (D.files disk.old).idx
+    ensures counts { IfErr result (λ e. IsTrue D.tells → IsFreshChange change.old (D.files disk.old).idx
         → IsHonest change.old (D.files disk.old).idx
         → IsBadFor rows.now change.old.extent.buckets (D.files disk.old).idx e) }
     ensures cost { IsTrue D.tells → IsWellFormed change.old.extent.buckets (D.files disk.old).idx

@@ -1,7 +1,7 @@
 //! What a change of the index will write.
 
 ghost use Rattle.std.specs.Prelude.{◌≡◌, ℕ, ◌+◌, ◌*◌, ◌^◌, ◌≤◌, IsTrue, true, length, map, reverse, ◌++◌, OnOk, IfOk, IfErr, Err};
-ghost use Rattle.rpm_hindex.specs.Prelude.{bucket_count, CanGo, CanRead, CanWrite, contains, first_record, Grows, HasAdded, Idx, index_at, index_of, is_kept, IsFaulty, IsHonest, IsImage, IsOpen, IsOther, IsScratchOf, IsStrictlySortedBy, IsTooLarge, IsWorkOf, kept_in, kept_of, keys, LeavesWhole, live_of, nat_cmp, patch_of, ReadsAtOr, ReadsOr, units_for};
+ghost use Rattle.rpm_hindex.specs.Prelude.{bucket_count, CanGo, CanRead, CanWrite, contains, first_record, Grows, HasAdded, Idx, index_at, index_of_change, is_kept, IsFaulty, IsHonest, IsDraftOf, HasBuckets, IsOther, IsScratchOf, IsStrictlySortedBy, IsTooLarge, IsWorkOf, kept_in, kept_of, keys, LeavesWhole, live_of, nat_cmp, patch_of, ReadsAtOr, ReadsOr, units_for};
 
 use crate::chain::Extent;
 use crate::change::{Change, prepare_fault};
@@ -49,7 +49,7 @@ pub fn add_rows<D: Disk>(disk: &mut D, change: &mut Change, rows: &Rows) -> Resu
     requires none { length change.old.tail.items ≡ 0 }
     requires count { change.old.records + length rows.now ≤ 2 * change.old.extent.buckets }
     requires room { change.old.extent.used + live_of rows.now ≤ 2 ^ 28 }
-    requires open { IsTrue D.tells → IsOpen change.old.extent (D.files disk.old).idx }
+    requires open { IsTrue D.tells → HasBuckets change.old.extent (D.files disk.old).idx }
     ensures grows { OnOk result (Grows change.old change.new (length rows.now) (live_of rows.now)) }
     ensures other { IfErr result (λ e. IsOther e) }
     ensures added { OnOk result (IsTrue D.tells → HasAdded (D.files disk.old).idx rows.now change.old change.new) }
@@ -172,7 +172,7 @@ fn append_rows(rows: &mut Rows, others: &Rows) -> Result<(), AllocError>
 fn scratch_of(alloc: Global, rows: &Rows) -> Result<Image, PrepareFault>
     ensures fits { IfOk result (λ image. units_for rows.now ≤ 2 ^ 28) }
     ensures buckets { IfOk result (λ image. image.buckets ≡ bucket_count (length rows.now)) }
-    ensures made { IfOk result (λ image. IsImage rows.now (bucket_count (length rows.now)) image.bytes.items) }
+    ensures made { IfOk result (λ image. IsDraftOf rows.now (bucket_count (length rows.now)) image.bytes.items) }
     ensures full { IfErr result (IsTooLarge rows.now) }
 {
     match image_of(alloc, rows) {
@@ -187,7 +187,7 @@ fn scratch_of(alloc: Global, rows: &Rows) -> Result<Image, PrepareFault>
 fn image_with(alloc: Global, kept: Rows, adds: &Rows) -> Result<Image, PrepareFault>
     ensures fits { IfOk result (λ image. units_for (kept ++ adds.now) ≤ 2 ^ 28) }
     ensures buckets { IfOk result (λ image. image.buckets ≡ bucket_count (length (kept ++ adds.now))) }
-    ensures made { IfOk result (λ image. IsImage (kept ++ adds.now) (bucket_count (length (kept ++ adds.now))) image.bytes.items) }
+    ensures made { IfOk result (λ image. IsDraftOf (kept ++ adds.now) (bucket_count (length (kept ++ adds.now))) image.bytes.items) }
     ensures full { IfErr result (IsTooLarge (kept ++ adds.now)) }
 {
     if kept.len() == 0 {
@@ -211,9 +211,9 @@ pub fn from_scratch<D: Disk>(
     requires open { CanRead D.Disk disk.old change.now.extent }
     ensures leaves { IfOk result (λ plan. LeavesWhole plan.work) }
     ensures full { IfErr result (λ e. IsTrue D.tells → IsTooLarge (reverse
-        (kept_in (index_of change.now (D.files disk.old).idx) change.now) ++ adds.now) e) }
+        (kept_in (index_of_change change.now (D.files disk.old).idx) change.now) ++ adds.now) e) }
     ensures made { IfOk result (λ plan. IsTrue D.tells → IsScratchOf (reverse
-        (kept_in (index_of change.now (D.files disk.old).idx) change.now) ++ adds.now) plan.work) }
+        (kept_in (index_of_change change.now (D.files disk.old).idx) change.now) ++ adds.now) plan.work) }
     ensures bad { IfErr result (λ e. IsTrue D.tells → IsFaulty change.now.extent.buckets (D.files disk.old).idx e) }
     ensures reads { ReadsAtOr D.Disk Idx (result ≡ Err PrepareFault.DiskFault) disk.old disk.new }
 {

@@ -1,7 +1,7 @@
 //! Working out a change of the index.
 
 ghost use Rattle.std.specs.Prelude.{◌≡◌, ℕ, ◌+◌, ◌*◌, ◌^◌, ◌≤◌, IsTrue, true, length, [], IfOk, IfErr, Err};
-ghost use Rattle.rpm_hindex.specs.Prelude.{buckets_of, CanGo, CanWrite, chains_bytes, contains, HasRoomFor, Idx, index_in, is_bucket_count, is_in_order, is_kept, IsFresh, IsHonest, IsOpen, IsPrepared, IsStarted, IsUnprepared, IsWellFormed, Keeps, nat_cmp, ReadsAtOr, records, StaysInPlace, StaysWithin, Units};
+ghost use Rattle.rpm_hindex.specs.Prelude.{buckets_of, CanGo, CanWrite, chains_bytes, contains, HasUnitsFor, Idx, index_in, is_bucket_count, is_in_order, is_kept, IsFreshChange, IsHonest, HasBuckets, IsPrepared, IsStarted, IsUnprepared, IsWellFormed, KeepsIndexValue, nat_cmp, ReadsAtOr, records, StaysInPlace, StaysWithin, Units};
 
 use crate::change::Change;
 use crate::faults::PrepareFault;
@@ -17,9 +17,9 @@ impl Hindex {
     /// Whether the rows that the index holds, with these, surely need no more than 268435456 units in one made from
     /// scratch, by what unit 1 counts. Reads nothing.
     pub fn has_room_for(&self, adds: &Rows) -> bool
-        ensures { result ≡ true → (file : Units) → Keeps file self.now
+        ensures { result ≡ true → (file : Units) → KeepsIndexValue file self.now
             → IsWellFormed (buckets_of self.now.first) file
-            → HasRoomFor [] adds.now (records (buckets_of self.now.first) file) }
+            → HasUnitsFor [] adds.now (records (buckets_of self.now.first) file) }
     {
         if adds.live() > UNITS {
             return false;
@@ -38,10 +38,10 @@ impl Hindex {
         ensures fits { result.extent.used ≤ self.now.units }
         ensures buckets { result.extent.buckets ≡ buckets_of self.now.first }
         ensures dropped { (p : ℕ) → is_kept (λ q. contains nat_cmp result.dropped q) p ≡ true }
-        ensures whole { (file : Units) → Keeps file self.now → IsWellFormed (buckets_of self.now.first) file → IsStarted result file }
-        ensures honest { (file : Units) → Keeps file self.now → IsHonest result file }
-        ensures fresh { (file : Units) → Keeps file self.now → IsFresh result file }
-        ensures open { (file : Units) → Keeps file self.now → IsOpen result.extent file }
+        ensures whole { (file : Units) → KeepsIndexValue file self.now → IsWellFormed (buckets_of self.now.first) file → IsStarted result file }
+        ensures honest { (file : Units) → KeepsIndexValue file self.now → IsHonest result file }
+        ensures fresh { (file : Units) → KeepsIndexValue file self.now → IsFreshChange result file }
+        ensures open { (file : Units) → KeepsIndexValue file self.now → HasBuckets result.extent file }
     {
         let records = word(&self.second, 1);
         let live = word(&self.second, 2);
@@ -59,7 +59,7 @@ impl Hindex {
     ) -> Result<IndexPlan, PrepareFault>
         requires limit { limit ≤ 2 ^ 28 }
         requires order { is_in_order self.now ≡ true }
-        requires keeps { IsTrue D.tells → Keeps (D.files disk.old).idx self.now }
+        requires keeps { IsTrue D.tells → KeepsIndexValue (D.files disk.old).idx self.now }
         ensures can { IfOk result (λ plan. CanWrite self.now.units plan.work) }
         ensures prepared { IfOk result (λ plan. IsPrepared D.Disk disk.old self.now drops.now adds.now plan.work) }
         ensures refused { IfErr result (IsUnprepared D.Disk disk.old self.now drops.now adds.now) }
@@ -108,7 +108,7 @@ impl Hindex {
         adds: &Rows,
     ) -> Result<IndexPlan, PrepareFault>
         requires order { is_in_order self.now ≡ true }
-        requires keeps { IsTrue D.tells → Keeps (D.files disk.old).idx self.now }
+        requires keeps { IsTrue D.tells → KeepsIndexValue (D.files disk.old).idx self.now }
         ensures can { IfOk result (λ plan. CanWrite self.now.units plan.work) }
         ensures prepared { IfOk result (λ plan. IsPrepared D.Disk disk.old self.now drops.now adds.now plan.work) }
         ensures refused { IfErr result (IsUnprepared D.Disk disk.old self.now drops.now adds.now) }

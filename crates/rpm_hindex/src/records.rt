@@ -1,7 +1,7 @@
 //! Records: their sizes, their buckets, and those that are to be written.
 
 ghost use Rattle.std.specs.Prelude.{◌≡◌, ◌%◌, ◌^◌, ◌≤◌, ◌<◌, ◌++◌, length, take, OnOk, OnErr};
-ghost use Rattle.rpm_hindex.specs.Prelude.{bucket_count, bytes_of, bytes_of_word, fnv, hash_of, index_units, is_bucket_count, padding, record_of, record_units};
+ghost use Rattle.rpm_hindex.specs.Prelude.{bucket_count, bytes_of, bytes_of_word, fnv, hash_of, index_units, is_bucket_count, key_padding, record_of, record_units};
 
 use crate::rows::RowRef;
 use rpm_outside::{bytes_of_word, unit_of_words};
@@ -95,7 +95,7 @@ pub fn first_unit(bytes: &[u8]) -> [u8; 16]
 
 /// Adds a key, padded with zeros to whole units.
 fn push_key(bytes: &mut Vec<u8>, key: &[u8]) -> Result<(), AllocError>
-    ensures { OnOk result (bytes.new.items ≡ bytes.old.items ++ key.now ++ padding (length key.now)) }
+    ensures { OnOk result (bytes.new.items ≡ bytes.old.items ++ key.now ++ key_padding (length key.now)) }
 {
     const ZEROS: [u8; 16] = [0; 16];
     bytes.extend_from_slice(key)?;

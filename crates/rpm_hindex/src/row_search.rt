@@ -1,7 +1,7 @@
 //! A row's record in its bucket's chain.
 
 ghost use Rattle.std.specs.Prelude.{◌≡◌, ℕ, ◌%◌, ◌<◌, IsTrue, List, IfOk, IfErr, Ok, Err, Some};
-ghost use Rattle.rpm_hindex.specs.Prelude.{CanRead, CanStart, chain, contains, FindsFrom, FindsRow, get, hash_of, Idx, index_at, is_kept, IsFaultOf, IsNext, IsOutside, IsPath, IsStart, nat_cmp, ReadsAtOr, ReadsChain, ReadsPath, row_with, StandsWithin, StandWithin};
+ghost use Rattle.rpm_hindex.specs.Prelude.{CanRead, CanStart, chain, contains, FindsFrom, FindsRow, get, hash_of, Idx, index_at, is_kept, IsFaultOf, IsNextUnit, IsOutsideIndex, IsPath, IsStart, nat_cmp, ReadsAtOr, ReadsChain, ReadsPath, row_with, StandsWithin, StandWithin};
 
 use crate::chain::{Extent, read_bucket};
 use crate::faults::FindFault;
@@ -42,7 +42,7 @@ fn find_around<D: Disk>(
 ) -> Result<Option<Spot>, FindFault>
     requires some { 0 < extent.buckets }
     requires open { CanRead D.Disk disk.old extent }
-    requires linked { IsNext extent.buckets extent.used first }
+    requires linked { IsNextUnit extent.buckets extent.used first }
     requires stands { StandsWithin extent.buckets extent.used start }
     requires start { IsTrue D.tells → (places : List ℕ)
         → IsPath (index_at D.Disk disk.old extent) bucket first places 0
@@ -53,7 +53,7 @@ fn find_around<D: Disk>(
         (is_kept (λ p. contains nat_cmp dropped.now p))
         (row_with row.entry.kind row.entry.key.now row.entry.number row.entry.place)) }
     ensures fault { IfErr result (λ e. IsTrue D.tells → (places : List ℕ)
-        → IsPath (index_at D.Disk disk.old extent) bucket first places 0 → IsOutside e) }
+        → IsPath (index_at D.Disk disk.old extent) bucket first places 0 → IsOutsideIndex e) }
     ensures cost { ReadsPath D.Disk extent bucket first 0 disk.old disk.new }
     ensures reads { ReadsAtOr D.Disk Idx (result ≡ Err FindFault.DiskFault) disk.old disk.new }
 {
@@ -82,7 +82,7 @@ fn find_from<D: Disk>(
 ) -> Result<Option<Spot>, FindFault>
     requires some { 0 < extent.buckets }
     requires open { CanRead D.Disk disk.old extent }
-    requires linked { IsNext extent.buckets extent.used first }
+    requires linked { IsNextUnit extent.buckets extent.used first }
     requires stand { StandWithin extent.buckets extent.used (λ b. get nat_cmp starts.now b) }
     requires starts { IsTrue D.tells → (places : List ℕ)
         → IsPath (index_at D.Disk disk.old extent) bucket first places 0 → (s : Start)
@@ -93,7 +93,7 @@ fn find_from<D: Disk>(
         (is_kept (λ p. contains nat_cmp dropped.now p))
         (row_with row.entry.kind row.entry.key.now row.entry.number row.entry.place)) }
     ensures fault { IfErr result (λ e. IsTrue D.tells → (places : List ℕ)
-        → IsPath (index_at D.Disk disk.old extent) bucket first places 0 → IsOutside e) }
+        → IsPath (index_at D.Disk disk.old extent) bucket first places 0 → IsOutsideIndex e) }
     ensures cost { ReadsPath D.Disk extent bucket first 0 disk.old disk.new }
     ensures reads { ReadsAtOr D.Disk Idx (result ≡ Err FindFault.DiskFault) disk.old disk.new }
 {

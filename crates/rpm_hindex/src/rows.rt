@@ -40,11 +40,11 @@ impl Model for Rows {
 
     ghost Value = { List Row };
 
-    ghost use Rattle.rpm_hindex.specs.inner.Packed.{rows_in, IsPacked};
+    ghost use Rattle.rpm_hindex.specs.inner.Packed.{packed_rows, AreKeysPacked};
 
-    ghost view = { λ s. rows_in s.keys.items s.heads.items };
+    ghost view = { λ s. packed_rows s.keys.items s.heads.items };
 
-    ghost invariant = { λ s. IsPacked s.heads.items s.keys.items s.live };
+    ghost invariant = { λ s. AreKeysPacked s.heads.items s.keys.items s.live };
 }
 
 // The most units that rows may need together; memory for as many never is.

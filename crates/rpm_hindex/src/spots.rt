@@ -1,7 +1,7 @@
 //! Where a row's record stands in its chain.
 
 ghost use Rattle.std.specs.Prelude.{◌≡◌, ℕ, ◌%◌, ◌≤◌, ◌<◌, ◌&&◌, IsTrue, false, List, IfOk, IfErr, Err, Some, if◌then◌else◌};
-ghost use Rattle.rpm_hindex.specs.Prelude.{CanRead, contains, FindsFrom, hash_of, Idx, index_at, is_kept, IsNext, IsOutside, IsPath, nat_cmp, OnWay, PathCosts, ReadsAtOr, ReadsPath, row_with, SkipsTo};
+ghost use Rattle.rpm_hindex.specs.Prelude.{CanRead, contains, FindsFrom, hash_of, Idx, index_at, is_kept, IsNextUnit, IsOutsideIndex, IsPath, nat_cmp, OnWay, PathCosts, ReadsAtOr, ReadsPath, row_with, SkipsTo};
 
 use crate::chain::Extent;
 use crate::faults::FindFault;
@@ -31,12 +31,12 @@ fn skip_dropped<D: Disk>(
     dropped: &BTreeSet<u32>,
 ) -> Result<u32, FindFault>
     requires open { CanRead D.Disk disk.old extent }
-    requires linked { IsNext extent.buckets extent.used from }
-    ensures linked { IfOk result (IsNext extent.buckets extent.used) }
+    requires linked { IsNextUnit extent.buckets extent.used from }
+    ensures linked { IfOk result (IsNextUnit extent.buckets extent.used) }
     ensures skips { IfOk result (λ to. IsTrue D.tells → (b : ℕ) (front : List ℕ)
         → IsPath (index_at D.Disk disk.old extent) b from front end
         → SkipsTo (index_at D.Disk disk.old extent) b end (is_kept (λ p. contains nat_cmp dropped.now p)) from to) }
-    ensures fault { IfErr result (λ e. IsTrue D.tells → (b : ℕ) → OnWay (index_at D.Disk disk.old extent) b from end (IsOutside e)) }
+    ensures fault { IfErr result (λ e. IsTrue D.tells → (b : ℕ) → OnWay (index_at D.Disk disk.old extent) b from end (IsOutsideIndex e)) }
     ensures cost { IsTrue D.tells → (b : ℕ)
         → PathCosts (index_at D.Disk disk.old extent) b from end (D.bytes_read disk.old Idx)
         (D.bytes_read disk.new Idx) }
@@ -111,12 +111,12 @@ pub fn find_spot<D: Disk>(
 ) -> Result<Option<Spot>, FindFault>
     requires some { 0 < extent.buckets }
     requires open { CanRead D.Disk disk.old extent }
-    requires linked { IsNext extent.buckets extent.used from }
+    requires linked { IsNextUnit extent.buckets extent.used from }
     requires bucket { hash_of row.kind row.key.now % extent.buckets ≡ bucket }
     ensures found { IfOk result (FindsFrom D.Disk disk.old extent bucket from end
         (is_kept (λ p. contains nat_cmp dropped.now p))
         (row_with row.entry.kind row.entry.key.now row.entry.number row.entry.place)) }
-    ensures fault { IfErr result (λ e. IsTrue D.tells → OnWay (index_at D.Disk disk.old extent) bucket from end (IsOutside e)) }
+    ensures fault { IfErr result (λ e. IsTrue D.tells → OnWay (index_at D.Disk disk.old extent) bucket from end (IsOutsideIndex e)) }
     ensures cost { ReadsPath D.Disk extent bucket from end disk.old disk.new }
     ensures reads { ReadsAtOr D.Disk Idx (result ≡ Err FindFault.DiskFault) disk.old disk.new }
 {

@@ -1,7 +1,7 @@
 //! Writing the index.
 
 ghost use Rattle.std.specs.Prelude.{◌≡◌, ℕ, ◌+◌, ◌/◌, ◌%◌, ◌^◌, ◌≤◌, ◌<◌, ◌∷◌, [], List, IsTrue, true, length, max, OnOk, IfErr, Err};
-ghost use Rattle.rpm_hindex.specs.Prelude.{AddsPadded, after, after_tail, after_units, ArePadded, ArePatches, blank, buckets_after, CanWrite, Idx, index_in, is_current, is_ordered, IsAfter, IsChanged, IsFull, IsPaddedPlan, IsPlanFor, IsRefused, IsRewritten, IsSame, IsSealed, IsSettled, IsWellFormed, Keeps, Leaves, LeavesOrder, patch_at, put, records, Row, SameRows, SameSeal, seal_unit, SealedOrSame, Torn, units_for, units_of, VoidOrSame, VoidOrSameSeal, Writes, WritesOr, WritesPadded};
+ghost use Rattle.rpm_hindex.specs.Prelude.{AddsPadded, file_after, after_tail, after_units, ArePadded, ArePatches, blank, buckets_after, CanWrite, Idx, index_in, is_current, is_ordered, IsAfter, IsChanged, IsIndexFull, IsPaddedPlan, IsPlanFor, IsRebuildRefused, IsRebuiltIndex, IsSame, IsSealed, IsDurable, IsWellFormed, KeepsIndexValue, IsDurableAs, LeavesOrder, patch_at, with_units, records, Row, SameRows, SameSeal, seal_unit, SealedOrSame, Torn, units_for, units_of, VoidOrSame, VoidOrSameSeal, Writes, WritesOr, WritesPadded};
 
 use crate::faults::{IndexDiskFault, RewriteFault};
 use crate::image::{Image, image_of};
@@ -17,29 +17,29 @@ fn write_units<D: Disk>(disk: &mut D, unit: u64, bytes: &[u8]) -> Result<(), Ind
     requires some { 0 < length bytes.now }
     requires whole { length bytes.now % 16 ≡ 0 }
     requires room { unit + length bytes.now / 16 ≤ 2 ^ 28 }
-    ensures written { OnOk result (IsTrue D.tells → (D.files disk.new).idx ≡ put unit (units_of bytes.now) (D.files disk.old).idx) }
+    ensures written { OnOk result (IsTrue D.tells → (D.files disk.new).idx ≡ with_units unit (units_of bytes.now) (D.files disk.old).idx) }
     ensures writes { Writes D.Disk Idx (Torn unit (units_of bytes.now)) 0 result disk.old disk.new }
 {
     disk.write_at(File::Idx, unit, bytes)
         .map_err(|_| IndexDiskFault)
 }
 
-/// Settles Hindex.db.
+/// Makes Hindex.db durable.
 fn sync<D: Disk>(disk: &mut D) -> Result<(), IndexDiskFault>
     ensures same { IsTrue D.tells → (D.files disk.new).idx ≡ (D.files disk.old).idx }
-    ensures settled { OnOk result (IsTrue D.tells → IsSettled D.Disk Idx disk.new) }
+    ensures durable { OnOk result (IsTrue D.tells → IsDurable D.Disk Idx disk.new) }
     ensures writes { Writes D.Disk Idx IsSame 0 result disk.old disk.new }
 {
     disk.sync(File::Idx).map_err(|_| IndexDiskFault)
 }
 
-/// Writes units of Hindex.db, and settles it.
+/// Writes units of Hindex.db, and makes it durable.
 fn write_synced<D: Disk>(disk: &mut D, unit: u64, bytes: &[u8]) -> Result<(), IndexDiskFault>
     requires some { 0 < length bytes.now }
     requires whole { length bytes.now % 16 ≡ 0 }
     requires room { unit + length bytes.now / 16 ≤ 2 ^ 28 }
-    ensures written { OnOk result (IsTrue D.tells → (D.files disk.new).idx ≡ put unit (units_of bytes.now) (D.files disk.old).idx) }
-    ensures settled { OnOk result (IsTrue D.tells → IsSettled D.Disk Idx disk.new) }
+    ensures written { OnOk result (IsTrue D.tells → (D.files disk.new).idx ≡ with_units unit (units_of bytes.now) (D.files disk.old).idx) }
+    ensures durable { OnOk result (IsTrue D.tells → IsDurable D.Disk Idx disk.new) }
     ensures writes { Writes D.Disk Idx (Torn unit (units_of bytes.now)) 0 result disk.old disk.new }
 {
     write_units(disk, unit, bytes)?;
@@ -50,7 +50,7 @@ fn write_synced<D: Disk>(disk: &mut D, unit: u64, bytes: &[u8]) -> Result<(), In
 fn write_patch<D: Disk>(disk: &mut D, patch: Patch) -> Result<(), IndexDiskFault>
     requires behind { 1 ≤ patch.unit }
     requires room { patch.unit < 2 ^ 28 }
-    ensures written { OnOk result (IsTrue D.tells → (D.files disk.new).idx ≡ put patch.unit (patch.words ∷ []) (D.files disk.old).idx) }
+    ensures written { OnOk result (IsTrue D.tells → (D.files disk.new).idx ≡ with_units patch.unit (patch.words ∷ []) (D.files disk.old).idx) }
     ensures writes { Writes D.Disk Idx SameSeal 0 result disk.old disk.new }
 {
     write_units(disk, patch.unit as u64, &patch.words)
@@ -83,7 +83,7 @@ fn write_tail<D: Disk>(disk: &mut D, used: u32, tail: &[u8]) -> Result<(), Index
 }
 
 impl Hindex {
-    /// Makes the first unit zeros, and settles the file: the index isn't sealed then. Takes no memory and reads
+    /// Makes the first unit zeros, and makes the file durable: the index isn't sealed then. Takes no memory and reads
     /// nothing.
     ///
     /// # Errors
@@ -91,9 +91,9 @@ impl Hindex {
     /// `IndexDiskFault` only where the disk's count of faults rose. What the value keeps is then no more said of the
     /// file.
     pub fn void<D: Disk>(&mut self, disk: &mut D) -> Result<(), IndexDiskFault>
-        requires keeps { IsTrue D.tells → Keeps (D.files disk.old).idx self.old }
+        requires keeps { IsTrue D.tells → KeepsIndexValue (D.files disk.old).idx self.old }
         ensures state { OnOk result (self.new ≡ record { first = blank; second = self.old.second; units = max self.old.units 1; pending = 0 }) }
-        ensures left { OnOk result (Leaves D.Disk disk.new self.new (put 0 (blank ∷ []) (D.files disk.old).idx)) }
+        ensures left { OnOk result (IsDurableAs D.Disk disk.new self.new (with_units 0 (blank ∷ []) (D.files disk.old).idx)) }
         ensures writes { Writes D.Disk Idx VoidOrSame 0 result disk.old disk.new }
     {
         write_synced(disk, 0, &[0; 16])?;
@@ -103,7 +103,7 @@ impl Hindex {
         Ok(())
     }
 
-    /// Seals an index that was written, and settles the file. Takes no memory and reads nothing.
+    /// Seals an index that was written, and makes the file durable. Takes no memory and reads nothing.
     ///
     /// # Errors
     ///
@@ -111,14 +111,14 @@ impl Hindex {
     /// file.
     pub fn seal<D: Disk>(&mut self, disk: &mut D, generation: u32) -> Result<(), IndexDiskFault>
         requires written { 0 < self.old.pending }
-        requires keeps { IsTrue D.tells → Keeps (D.files disk.old).idx self.old }
+        requires keeps { IsTrue D.tells → KeepsIndexValue (D.files disk.old).idx self.old }
         ensures state { OnOk result (self.new ≡ record {
           first = seal_unit generation self.old.pending;
           second = self.old.second;
           units = self.old.units;
           pending = 0;
         }) }
-        ensures left { OnOk result (Leaves D.Disk disk.new self.new (put 0 (seal_unit generation self.old.pending ∷ []) (D.files disk.old).idx)) }
+        ensures left { OnOk result (IsDurableAs D.Disk disk.new self.new (with_units 0 (seal_unit generation self.old.pending ∷ []) (D.files disk.old).idx)) }
         ensures current { OnOk result (is_ordered self.old.pending self.old.second self.old.units ≡ true → is_current generation self.new ≡ true) }
         ensures whole { OnOk result (IsTrue D.tells → IsWellFormed self.old.pending (D.files disk.old).idx
             → IsWellFormed self.old.pending (D.files disk.new).idx) }
@@ -128,7 +128,7 @@ impl Hindex {
             (index_in self.old.pending (D.files disk.old).idx) (index_in self.old.pending (D.files disk.new).idx)) }
         ensures whichever { IsTrue D.tells → IsWellFormed self.old.pending (D.files disk.old).idx
             → IsSealed generation self.old.pending (D.files disk.old).idx
-            (put 0 (seal_unit generation self.old.pending ∷ []) (D.files disk.old).idx) }
+            (with_units 0 (seal_unit generation self.old.pending ∷ []) (D.files disk.old).idx) }
         ensures writes { Writes D.Disk Idx (SealedOrSame (seal_unit generation self.old.pending)) 0 result disk.old disk.new }
     {
         let first = unit_of_words(MAGIC, 2, generation, self.pending);
@@ -138,7 +138,7 @@ impl Hindex {
         Ok(())
     }
 
-    /// Makes the first unit zeros, writes an index of these rows from scratch, and settles the file. The index isn't
+    /// Makes the first unit zeros, writes an index of these rows from scratch, and makes the file durable. The index isn't
     /// sealed then. No unit of it is dead: it has as many as `index_units` says.
     ///
     /// Reads nothing. All memory is taken before the first write: once that of the rows, and 8 bytes a bucket.
@@ -155,17 +155,17 @@ impl Hindex {
         disk: &mut D,
         rows: &Rows,
     ) -> Result<(), RewriteFault>
-        requires keeps { IsTrue D.tells → Keeps (D.files disk.old).idx self.old }
-        ensures full { IsFull (units_for rows.now) result }
-        ensures value { OnOk result (IsRewritten rows.now self.new) }
+        requires keeps { IsTrue D.tells → KeepsIndexValue (D.files disk.old).idx self.old }
+        ensures full { IsIndexFull (units_for rows.now) result }
+        ensures value { OnOk result (IsRebuiltIndex rows.now self.new) }
         ensures grows { OnOk result (self.new.units ≤ max self.old.units (units_for rows.now)) }
         ensures ordered { OnOk result (is_ordered self.new.pending self.new.second self.new.units ≡ true) }
-        ensures kept { OnOk result (IsTrue D.tells → Keeps (D.files disk.new).idx self.new) }
+        ensures kept { OnOk result (IsTrue D.tells → KeepsIndexValue (D.files disk.new).idx self.new) }
         ensures whole { OnOk result (IsTrue D.tells → IsWellFormed self.new.pending (D.files disk.new).idx) }
         ensures rows { OnOk result (IsTrue D.tells → SameRows rows.now (records self.new.pending (D.files disk.new).idx)) }
         ensures padded { OnOk result (IsTrue D.tells → ArePadded (index_in self.new.pending (D.files disk.new).idx)) }
-        ensures settled { OnOk result (IsTrue D.tells → IsSettled D.Disk Idx disk.new) }
-        ensures refused { IfErr result (λ e. IsRefused e → (self.new ≡ self.old) × (disk.new ≡ disk.old)) }
+        ensures durable { OnOk result (IsTrue D.tells → IsDurable D.Disk Idx disk.new) }
+        ensures refused { IfErr result (λ e. IsRebuildRefused e → (self.new ≡ self.old) × (disk.new ≡ disk.old)) }
         ensures writes { WritesOr D.Disk Idx VoidOrSame 0 (result ≡ Err RewriteFault.DiskFault) disk.old disk.new }
     {
         let image = image_of(alloc, rows)?;
@@ -175,13 +175,13 @@ impl Hindex {
         Ok(())
     }
 
-    /// Makes the first unit zeros, writes units 1 to the end, and settles the file.
+    /// Makes the first unit zeros, writes units 1 to the end, and makes the file durable.
     fn replace<D: Disk>(&mut self, disk: &mut D, image: &Image) -> Result<(), IndexDiskFault>
         requires can { CanWrite self.old.units (Work.Scratch image.now) }
-        requires keeps { IsTrue D.tells → Keeps (D.files disk.old).idx self.old }
+        requires keeps { IsTrue D.tells → KeepsIndexValue (D.files disk.old).idx self.old }
         ensures value { OnOk result (IsAfter self.old self.new (Work.Scratch image.now)) }
         ensures voided { OnOk result (self.new.first ≡ blank) }
-        ensures left { OnOk result (Leaves D.Disk disk.new self.new (after (Work.Scratch image.now) (D.files disk.old).idx)) }
+        ensures left { OnOk result (IsDurableAs D.Disk disk.new self.new (file_after (Work.Scratch image.now) (D.files disk.old).idx)) }
         ensures writes { Writes D.Disk Idx VoidOrSame 0 result disk.old disk.new }
     {
         self.void(disk)?;
@@ -192,12 +192,12 @@ impl Hindex {
         Ok(())
     }
 
-    /// Writes units that change, records after all others, and unit 1, and settles the file.
+    /// Writes units that change, records after all others, and unit 1, and makes the file durable.
     fn patch<D: Disk>(&mut self, disk: &mut D, patches: &Patches) -> Result<(), IndexDiskFault>
         requires patches { ArePatches self.old.units patches.now }
-        requires keeps { IsTrue D.tells → Keeps (D.files disk.old).idx self.old }
+        requires keeps { IsTrue D.tells → KeepsIndexValue (D.files disk.old).idx self.old }
         ensures value { OnOk result (IsAfter self.old self.new (Work.InPlace patches.now)) }
-        ensures left { OnOk result (Leaves D.Disk disk.new self.new (after (Work.InPlace patches.now) (D.files disk.old).idx)) }
+        ensures left { OnOk result (IsDurableAs D.Disk disk.new self.new (file_after (Work.InPlace patches.now) (D.files disk.old).idx)) }
         ensures writes { Writes D.Disk Idx SameSeal 0 result disk.old disk.new }
     {
         write_tail(disk, patches.used, &patches.tail)?;
@@ -211,7 +211,7 @@ impl Hindex {
         Ok(())
     }
 
-    /// Writes a change, and settles the file. The index isn't sealed then. Takes no memory and reads nothing.
+    /// Writes a change, and makes the file durable. The index isn't sealed then. Takes no memory and reads nothing.
     ///
     /// In place, all new records are one write, and then each unit that changes is one.
     ///
@@ -221,10 +221,10 @@ impl Hindex {
     /// file.
     pub fn apply<D: Disk>(&mut self, disk: &mut D, plan: IndexPlan) -> Result<(), IndexDiskFault>
         requires plan { CanWrite self.old.units plan.work }
-        requires keeps { IsTrue D.tells → Keeps (D.files disk.old).idx self.old }
+        requires keeps { IsTrue D.tells → KeepsIndexValue (D.files disk.old).idx self.old }
         ensures value { OnOk result (IsAfter self.old self.new plan.work) }
         ensures ordered { OnOk result (LeavesOrder plan.work → is_ordered self.new.pending self.new.second self.new.units ≡ true) }
-        ensures left { OnOk result (Leaves D.Disk disk.new self.new (after plan.work (D.files disk.old).idx)) }
+        ensures left { OnOk result (IsDurableAs D.Disk disk.new self.new (file_after plan.work (D.files disk.old).idx)) }
         ensures rows { OnOk result (IsTrue D.tells → (drops adds : List Row) (buckets : ℕ)
             → IsPlanFor drops adds buckets (D.files disk.old).idx plan.work
             → IsChanged drops adds (records buckets (D.files disk.old).idx) (buckets_after plan.work)

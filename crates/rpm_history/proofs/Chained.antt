@@ -3,15 +3,15 @@ use Rattle.std.proofs.Common.{◌≡◌, ℕ, ◌≤◌, Bool, true, List, [], �
 use Rattle.std.specs.Prelude.{IsTrue}
 use Rattle.std.proofs.lemmas.List.{append-nil}
 use Rattle.rpm_history.proofs.Vocabulary.{after, AllRowsFit, AllStand, AreLawfulDatabases, asks, Between, ChangesWith, Course, course_of, Cuts, Files, FromOneOf}
-use Rattle.rpm_history.proofs.Vocabulary.{given_on, HasState, images, InTurn, InTurnBefore, is_done, LeadsByLines, leaves_then, leaves_weaker, LeavesIn, LeavesState}
+use Rattle.rpm_history.proofs.Vocabulary.{given_on, HasState, images, InTurn, InTurnBefore, is_done, LeadsByLines, leaves_then, leaves_weaker, CrashLeaves, LeavesState}
 use Rattle.rpm_history.proofs.Vocabulary.{LineIs, LineStays, Moves, Paths, reopened, RowsFit, RunCall, Says, RepresentsState, started, State, state, Store, store}
 use Rattle.rpm_history.proofs.Vocabulary.{TellsCalls, Units, Why}
-use Rattle.rpm_commit.specs.inner.Brokens.{by_bool}
+use Rattle.rpm_commit.specs.laws.Brokens.{by_bool}
 use Rattle.rpm_history.proofs.Fitting.{course_fits}
 use Rattle.rpm_history.proofs.Histories.{Cut, cut_stands, line_fits, LineDoes, Next, next_all, stands_weaker, moves_nothing}
 use Rattle.rpm_history.proofs.Lined.{from_itself, from_one, line_does, line_changes}
 use Rattle.rpm_history.proofs.Numbering.{Numbered, numbered_made, numbered_moved, given_nothing, given_undone, given_done}
-use Rattle.rpm_commit.specs.inner.Standing.{if_ok_at, ok_is}
+use Rattle.rpm_commit.specs.laws.Standing.{if_ok_at, ok_is}
 use Rattle.rpm_outside.specs.declared.disk.Disk as disk
 use Rattle.rpm_outside.specs.declared.shelf.Shelf as shelf
 use Rattle.rpm_outside.specs.declared.sink.Sink as sink
@@ -42,8 +42,8 @@ module _ {D S O E : Type 0} (d : disk.Ghosts D) (told : IsTrue d.tells) (s : she
 
   -- after them, within them, and that the rows fit meanwhile
   abbrev Led : (State → Type 0) → List RunCall → D → D → Type 0
-  Led P calls old new = AllStand (LeadsFrom P calls) (images d new) × LeavesIn d old new (RepresentsState (CutsFrom P calls))
-      × (AllRowsFit (images d old) → LeavesIn d old new RowsFit)
+  Led P calls old new = AllStand (LeadsFrom P calls) (images d new) × CrashLeaves d old new (RepresentsState (CutsFrom P calls))
+      × (AllRowsFit (images d old) → CrashLeaves d old new RowsFit)
 
   -- a crash within a line, or within those behind it
   cut_within : (call : RunCall) (calls : List RunCall) (P : State → Type 0) (t : State) → Cut (course_in call) call.outcome.why P t
@@ -101,13 +101,14 @@ module _ {D S O E : Type 0} (d : disk.Ghosts D) (told : IsTrue d.tells) (s : she
   pub lines_stand : (calls : List RunCall) (old new : Between D S O E) → TellsCalls s.tells calls → Lines calls old new
       → AreLawfulDatabases (images d old.disk)
       → AllStand (FromOneOf (images d old.disk) (LeadsByLines paths calls)) (images d new.disk)
-      × LeavesIn d old.disk new.disk (RepresentsState (FromOneOf (images d old.disk) (Cuts paths calls)))
-      × (AllRowsFit (images d old.disk) → LeavesIn d old.disk new.disk RowsFit)
+      × CrashLeaves d old.disk new.disk (RepresentsState (FromOneOf (images d old.disk) (Cuts paths calls)))
+      × (AllRowsFit (images d old.disk) → CrashLeaves d old.disk new.disk RowsFit)
   lines_stand calls old new tells lines lawful =
       let at = images d old.disk in
       let P : State → Type 0 = FromOneOf at (λ m t. t ≡ m) in
       let led = lines_led calls old new tells lines P (λ image left. from_itself at (λ m t. t ≡ m) (λ m. refl) image left (lawful image left)) in (
-        λ image left. stands_weaker (LeadsFrom P calls) (FromOneOf at (LeadsByLines paths calls)) image (from_one at (LeadsByLines paths calls)) (led.0 image left),
+        λ image left. stands_weaker (LeadsFrom P calls) (FromOneOf at (LeadsByLines paths calls)) image (from_one at (LeadsByLines paths calls))
+            (led.0 image left),
         leaves_weaker d old.disk new.disk (RepresentsState (CutsFrom P calls)) (RepresentsState (FromOneOf at (Cuts paths calls)))
             (λ image. stands_weaker (CutsFrom P calls) (FromOneOf at (Cuts paths calls)) image (from_one at (Cuts paths calls))) led.1,
         led.2,
@@ -120,7 +121,7 @@ module _ {D S O E : Type 0} (d : disk.Ghosts D) (told : IsTrue d.tells) (s : she
       → AreLawfulDatabases (images d mid.disk) → {anew changing : Bool}
       → ChangesWith d anew changing (course_in call) call.outcome.why call.outcome.changes old.disk mid.disk → is_done call.outcome.why ≡ true
       → (value : Store) → store (reopened (d.files old.disk)).pkg ≡ Ok value
-      → LeavesIn d mid.disk new.disk (RepresentsState (Cuts paths calls (after (course_in call) (state (reopened (d.files old.disk)).pkg value))))
+      → CrashLeaves d mid.disk new.disk (RepresentsState (Cuts paths calls (after (course_in call) (state (reopened (d.files old.disk)).pkg value))))
   acknowledged call calls old mid new tells rest lawful did done value undamaged =
       let made = after (course_in call) (state (reopened (d.files old.disk)).pkg value) in
       let P : State → Type 0 = λ t. t ≡ made in

@@ -3,9 +3,9 @@ use Rattle.std.proofs.Common.{◌≡◌, ℕ, ◌+◌, ◌<◌, Bool, true, fals
 use Rattle.std.specs.Prelude.{Option, Some, None, Result, Ok, Err, codes, is_some, if◌then◌else◌}
 use Rattle.std.specs.FinMap as finite
 use Rattle.rpm_history.proofs.Vocabulary.{above, add_file, Adding, apply_all, as_installed, asked_task, AskParts, Bad, bytes_at, Course, course_of, drop_each}
-use Rattle.rpm_history.proofs.Vocabulary.{erase_one, erased, Erasing, Exercising, FileFault, Good, Header, header, HeaderFault, idle, import_end, import_from}
-use Rattle.rpm_history.proofs.Vocabulary.{import_list, imported, Importing, in_turn, is_changing, listed, ListFault, Making, max_headers, Package}
-use Rattle.rpm_history.proofs.Vocabulary.{package_header, Paths, place_fails, Placing, put_found, put_installed, Rebuilding, replaced, Replacing, State}
+use Rattle.rpm_history.proofs.Vocabulary.{erase_one, erasure, Erasing, Exercising, FileFault, Good, Header, header, HeaderFault, idle, import_end, import_from}
+use Rattle.rpm_history.proofs.Vocabulary.{import_list, imported_header, Importing, in_turn, is_changing, listed_headers, ListFault, Making, max_headers, Package}
+use Rattle.rpm_history.proofs.Vocabulary.{package_header, Paths, place_fails, Placing, put_found, put_installed, Rebuilding, replacement, Replacing, State}
 use Rattle.rpm_history.proofs.Vocabulary.{task_course, TaskParts, Tree}
 use Rattle.rpm_history.proofs.Ahead.{Ahead, Fits, PutsUnder, under_then, under_fits}
 use Rattle.rpm_history.proofs.ExerciseFits.{exercise_fits}
@@ -29,7 +29,7 @@ found_under f how under j path (Some bytes) =
     installed_under f how.number under j path (as_installed how.moment (package_header bytes))
 
 replaced_under : (f : ℕ) (paths : Paths) (now n : ℕ) (path : List ℕ) (o : Option Package) → (is_some o ≡ true → n < f)
-    → PutsUnder f (replaced o paths now n path).changes
+    → PutsUnder f (replacement o paths now n path).changes
 replaced_under f paths now n path None held = tt
 replaced_under f paths now n path (Some p) held =
     found_under f (record { number = Some n; moment = now }) (held refl) 0 path (bytes_at paths path)
@@ -41,13 +41,13 @@ turns_under f each so s j (x ∷ xs) =
     under_then f (each s j x).changes (in_turn each (apply_all (each s j x).changes s) (j + 1) xs).changes (so s j x)
     (turns_under f each so (apply_all (each s j x).changes s) (j + 1) xs)
 
-erased_under : (f : ℕ) (o : Option Package) (j n : ℕ) → PutsUnder f (erased o j n).changes
+erased_under : (f : ℕ) (o : Option Package) (j n : ℕ) → PutsUnder f (erasure o j n).changes
 erased_under f None j n = tt
 erased_under f (Some p) j n = (tt, tt)
 
 -- ---- lists, and rebuilding
 
-imported_under : (f k : ℕ) (r : Result Header HeaderFault) → PutsUnder f (imported k r).changes
+imported_under : (f k : ℕ) (r : Result Header HeaderFault) → PutsUnder f (imported_header k r).changes
 imported_under f k (Ok h) = (tt, tt)
 imported_under f k (Err fault) = tt
 
@@ -63,12 +63,12 @@ import_under : (f most k : ℕ) (blobs : List (List ℕ)) (fault : Option ListFa
 import_under f most k [] fault = end_under f k fault
 import_under f most k (blob ∷ blobs) fault =
     course_under f (place_fails k (codes "too many headers")) _ (nat_lt most k) tt
-    (under_then f (imported k (header blob)).changes (import_from most (k + 1) blobs fault).changes (imported_under f k (header blob))
+    (under_then f (imported_header k (header blob)).changes (import_from most (k + 1) blobs fault).changes (imported_under f k (header blob))
     (import_under f most (k + 1) blobs fault))
 
 list_under : (f most : ℕ) (bytes : Option (List ℕ)) → PutsUnder f (import_list most bytes).changes
 list_under f most None = tt
-list_under f most (Some bytes) = import_under f most 1 (listed bytes).blobs (listed bytes).fault
+list_under f most (Some bytes) = import_under f most 1 (listed_headers bytes).blobs (listed_headers bytes).fault
 
 drop_under : (f : ℕ) (es : List (ℕ × Package)) → PutsUnder f (drop_each es).changes
 drop_under f [] = tt

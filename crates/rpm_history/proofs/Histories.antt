@@ -1,11 +1,11 @@
 -- One command line more: what the database represents after it, given what it represented before.
 use Rattle.std.proofs.Common.{◌≡◌, ◌⊎◌, ℕ, ◌≤◌, Bool, false, refl, sym, ap, subst, inl, inr, ⊎_elim, arith, true}
 use Rattle.rpm_history.proofs.Vocabulary.{after, AllRowsFit, AllStand, apply_all, AreLawfulDatabases, ChangesWith, Course, Files, HasState, idle, images, is_done}
-use Rattle.rpm_history.proofs.Vocabulary.{is_done_or_fault, leaves_weaker, LeavesIn, Moves, reopened, RowsFit, Says, RepresentsState, IsLawfulAndSame, IsLawfulAndSameOr}
+use Rattle.rpm_history.proofs.Vocabulary.{is_done_or_fault, leaves_weaker, CrashLeaves, Moves, reopened, RowsFit, Says, RepresentsState, IsLawfulAndSame, IsLawfulAndSameOr}
 use Rattle.rpm_history.proofs.Vocabulary.{State, state, store, Units, Why}
-use Rattle.rpm_commit.specs.inner.Brokens.{by_bool}
-use Rattle.rpm_commit.specs.inner.Regrouped.{still_fits}
-use Rattle.rpm_commit.specs.inner.Standing.{if_ok_at}
+use Rattle.rpm_commit.specs.laws.Brokens.{by_bool}
+use Rattle.rpm_commit.specs.laws.Recovered.{still_fits}
+use Rattle.rpm_commit.specs.laws.Standing.{if_ok_at}
 use Rattle.rpm_outside.specs.declared.disk.Disk as disk
 use Rattle.rpm_effects.specs.declared.answer.Why.TheVariants as why
 
@@ -42,7 +42,7 @@ still_stands P images image all still = record {
 pub record Stood {D : Type 0} (d : disk.Ghosts D) (course : State → Course) (old new : D) : Type 0 where
   pub nothing : (s : State) → course s ≡ idle
   pub pkg : (reopened (d.files new)).pkg ≡ (reopened (d.files old)).pkg
-  pub stops : AreLawfulDatabases (images d old) → LeavesIn d old new (IsLawfulAndSame (images d old))
+  pub crashes : AreLawfulDatabases (images d old) → CrashLeaves d old new (IsLawfulAndSame (images d old))
 
 -- or its course changed them
 abbrev pub LineDoes : {D : Type 0} (d : disk.Ghosts D) → (State → Course) → Why → ℕ → D → D → Type 0
@@ -86,8 +86,8 @@ module _ {D : Type 0} (d : disk.Ghosts D) (course : State → Course) (given : W
     abbrev s0 : State
     s0 = state (reopened (d.files old)).pkg first.value
 
-    stops : LeavesIn d old new (IsLawfulAndSameOr past (after course s0))
-    stops = if_ok_at _ (store (reopened (d.files old)).pkg) first.value first.undamaged (did.stops lawful)
+    stops : CrashLeaves d old new (IsLawfulAndSameOr past (after course s0))
+    crashes = if_ok_at _ (store (reopened (d.files old)).pkg) first.value first.undamaged (did.crashes lawful)
 
     made_next : (image : Files) → HasState (after course s0) image → Moves given (after course s0) s0 (after course s0)
         → Says (Next course given P) (reopened image).pkg
@@ -121,7 +121,7 @@ module _ {D : Type 0} (d : disk.Ghosts D) (course : State → Course) (given : W
       };
     })
 
-    changed_cuts : LeavesIn d old new (RepresentsState (Cut course given P))
+    changed_cuts : CrashLeaves d old new (RepresentsState (Cut course given P))
     changed_cuts = by_bool (is_done_or_fault given)
         (λ may. leaves_weaker d old new (IsLawfulAndSameOr past (after course s0)) (RepresentsState (Cut course given P))
         (changed_cut ((moves_are given s0 (after course s0)).1 may)) stops)
@@ -129,12 +129,12 @@ module _ {D : Type 0} (d : disk.Ghosts D) (course : State → Course) (given : W
 
   -- ---- any
 
-  pub cut_stands : LineDoes d course given n old new → LeavesIn d old new (RepresentsState (Cut course given P))
-  cut_stands (inl stood) = leaves_weaker d old new (IsLawfulAndSame past) (RepresentsState (Cut course given P)) same_cut (stood.stops lawful)
+  pub cut_stands : LineDoes d course given n old new → CrashLeaves d old new (RepresentsState (Cut course given P))
+  cut_stands (inl stood) = leaves_weaker d old new (IsLawfulAndSame past) (RepresentsState (Cut course given P)) same_cut (stood.crashes lawful)
   cut_stands (inr (anew, changing, did)) = changed_cuts anew changing did
 
   next_stands : LineDoes d course given n old new → (image : Files) → d.left_since new (d.moment old) image → images d new image → Behind image
-  next_stands (inl stood) image since left = same_next (moves_nothing course stood.nothing given) image ((stood.stops lawful).each image since)
+  next_stands (inl stood) image since left = same_next (moves_nothing course stood.nothing given) image ((stood.crashes lawful).each image since)
   next_stands (inr (anew, changing, did)) image since left = changed_next anew changing did image since left
 
   pub next_all : ((s t : ℕ) (image : Files) → s ≤ t → t ≤ d.moment new → d.left_since new t image → d.left_since new s image)
@@ -143,6 +143,6 @@ module _ {D : Type 0} (d : disk.Ghosts D) (course : State → Course) (given : W
       next_stands does image (earlier (d.moment old) (d.moment new) image (cut_stands does).later (omega arith) left) left
 
   -- the rows fit after it, whatever stops it
-  pub line_fits : LineDoes d course given n old new → AllRowsFit past → LeavesIn d old new RowsFit
-  line_fits (inl stood) fit = leaves_weaker d old new (IsLawfulAndSame past) RowsFit (still_fits past fit) (stood.stops lawful)
+  pub line_fits : LineDoes d course given n old new → AllRowsFit past → CrashLeaves d old new RowsFit
+  line_fits (inl stood) fit = leaves_weaker d old new (IsLawfulAndSame past) RowsFit (still_fits past fit) (stood.crashes lawful)
   line_fits (inr (anew, changing, did)) fit = did.fits lawful fit

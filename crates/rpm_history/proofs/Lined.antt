@@ -2,14 +2,14 @@
 use Rattle.std.proofs.Common.{◌≡◌, ℕ, Bool, true, false, List, [], ◌∷◌, ◌++◌, length, ◌<◌, get_or, refl, sym, ap, subst, inl, inr, arith, ◌∙◌, Some}
 use Rattle.std.specs.Prelude.{Option, Some, None, IsTrue, if◌then◌else◌}
 use Rattle.rpm_history.proofs.Vocabulary.{Adding, asked_course, asked_task, AskParts, asks, Between, by_key, calls_of, changes_index, Course, course_of, Files}
-use Rattle.rpm_history.proofs.Vocabulary.{FromOneOf, idle, Importing, is_anew, is_changing, IsLawfulDatabase, Leaves, Line, LineIs, of_files, Outcome, Paths}
+use Rattle.rpm_history.proofs.Vocabulary.{FromOneOf, idle, Importing, is_anew, is_changing, IsLawfulDatabase, OnlyReadsPackages, Line, LineIs, of_files, Outcome, Paths}
 use Rattle.rpm_history.proofs.Vocabulary.{reads_shelf, reopened, Replacing, RunCall, RepresentsState, IsLawfulAndSame, State, state, task_course, TaskParts, TellsCalls}
 use Rattle.rpm_history.proofs.Vocabulary.{ChangesWith, AnswersCommand, run_of, TellsLines, Tree, uses_in, uses_shelf}
-use Rattle.rpm_print.specs.Frame.{images, LeavesIn}
-use Rattle.rpm_commit.specs.inner.Brokens.{by_bool}
+use Rattle.rpm_outside.specs.Frame.{images, CrashLeaves}
+use Rattle.rpm_commit.specs.laws.Brokens.{by_bool}
 use Rattle.rpm_history.proofs.Histories.{LineDoes, Stood}
 use Rattle.std.proofs.lemmas.Bool.{or_right}
-use Rattle.rpm_commit.specs.inner.Standing.{lawful_store}
+use Rattle.rpm_commit.specs.laws.Standing.{lawful_store}
 use Rattle.rpm_outside.specs.declared.disk.Disk as disk
 use Rattle.rpm_outside.specs.declared.shelf.Shelf as shelf
 use Rattle.rpm_outside.specs.declared.sink.Sink as sink
@@ -95,18 +95,18 @@ module _ {D S O E : Type 0} (d : disk.Ghosts D) (told : IsTrue d.tells) (s : she
   unread same = record {
     nothing = λ t. refl;
     pkg = ap (λ (it : D). (reopened (d.files it)).pkg) same;
-    stops = λ lawful. subst (λ (it : D). LeavesIn d old.disk it (IsLawfulAndSame past)) (sym same) (record {
+    crashes = λ lawful. subst (λ (it : D). CrashLeaves d old.disk it (IsLawfulAndSame past)) (sym same) (record {
       later = omega arith;
       each = λ image left. record { from = image; was = left; pkg = refl; lawful = lawful image left };
       before = λ t image le left. inl left;
     });
   }
 
-  looked : Leaves d old.disk new.disk → Stood d (λ t. idle) old.disk new.disk
+  looked : OnlyReadsPackages d old.disk new.disk → Stood d (λ t. idle) old.disk new.disk
   looked leaves = record {
     nothing = λ t. refl;
     pkg = ap (λ (f : Files). (reopened f).pkg) (leaves.untouched told).same;
-    stops = λ lawful. record {
+    crashes = λ lawful. record {
       later = omega (arith, leaves.moment_stays);
       each = λ image left. (let was = (leaves.untouched told).images (d.moment old.disk) image left in
           record { from = image; was = was; pkg = refl; lawful = lawful image was });
@@ -136,7 +136,7 @@ module _ {D S O E : Type 0} (d : disk.Ghosts D) (told : IsTrue d.tells) (s : she
       (λ keyed. record {
         nothing = λ t. refl;
         pkg = ((does a tree asked).keyed keyed told).packages;
-        stops = ((does a tree asked).keyed keyed told).stops;
+        crashes = ((does a tree asked).keyed keyed told).crashes;
       })
       (λ unkeyed. looked ((does a tree asked).looks unkeyed none)))))
 

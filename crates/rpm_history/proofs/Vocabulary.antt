@@ -1,7 +1,7 @@
 -- The words of proofs, from one place.
-pub use Rattle.rpm_change.specs.Adding.{add_file, as_installed, put_found, put_installed, replaced}
-pub use Rattle.rpm_change.specs.Erasing.{erase_one, erased}
-pub use Rattle.rpm_change.specs.Importing.{import_end, import_from, import_list, imported, listed, max_headers, place_fails}
+pub use Rattle.rpm_change.specs.Adding.{add_file, as_installed, put_found, put_installed, replacement}
+pub use Rattle.rpm_change.specs.Erasing.{erase_one, erasure}
+pub use Rattle.rpm_change.specs.Importing.{import_end, import_from, import_list, imported_header, listed_headers, max_headers, place_fails}
 pub use Rattle.rpm_change.specs.Rebuilding.{drop_each}
 pub use Rattle.rpm_effects.specs.Steps.{apply_all, Course, idle, in_turn}
 pub use Rattle.rpm_change.specs.declared.add.Placing.{Placing}
@@ -11,7 +11,7 @@ pub use Rattle.rpm_commit.specs.Tasks.{Adding, asked_course, asked_task, changes
 pub use Rattle.rpm_commit.specs.Tasks.{Rebuilding, Replacing, task_course, TaskParts}
 pub use Rattle.rpm_db.specs.Changes.{Add, apply, Change, Erase, greatest_in, next, Put, Says}
 pub use Rattle.rpm_db.specs.State.{above, Bad, Good, Package, state, State}
-pub use Rattle.rpm_exercise.specs.Rounds.{made, round_changes, turn}
+pub use Rattle.rpm_exercise.specs.Rounds.{made_blob, round_changes, round_turn}
 unfoldable pub use Rattle.rpm_exercise.specs.Rounds.{changes}
 pub use Rattle.rpm_file.specs.Package.{package_header}
 pub use Rattle.rpm_file.specs.declared.fault.FileFault.{FileFault}
@@ -25,16 +25,16 @@ pub use Rattle.rpm_history.specs.History.{uses_in, uses_shelf}
 pub use Rattle.rpm_history.specs.Lines.{between, Between, InTurn, InTurnBefore, LineIs, LineStays, run_of}
 pub use Rattle.rpm_history.specs.declared.several.Line.{Line}
 pub use Rattle.rpm_outside.specs.Files.{Files, Units}
-pub use Rattle.rpm_outside.specs.Frame.{images, LeavesIn}
+pub use Rattle.rpm_outside.specs.Frame.{images, CrashLeaves}
 pub use Rattle.rpm_outside.specs.Logs.{reopened}
 pub use Rattle.rpm_outside.specs.Shelves.{bytes_at, Paths}
-pub use Rattle.rpm_outside.specs.inner.Moments.{leaves_then, leaves_weaker, started}
+pub use Rattle.rpm_outside.specs.laws.Moments.{leaves_then, leaves_weaker, started}
 pub use Rattle.rpm_pkgdb.specs.Store.{store, Store}
 pub use Rattle.rpm_pkgdb.specs.declared.slot.Damage.{Damage}
 pub use Rattle.rpm_print.specs.Asked.{by_key, is_changing, of_files}
 unfoldable pub use Rattle.rpm_print.specs.Asked.{asks}
 pub use Rattle.rpm_effects.specs.Classes.{is_done, is_done_or_fault}
-pub use Rattle.rpm_print.specs.Frame.{Leaves}
+pub use Rattle.rpm_print.specs.Frame.{OnlyReadsPackages}
 pub use Rattle.rpm_effects.specs.declared.answer.Outcome.{Outcome}
 pub use Rattle.rpm_effects.specs.declared.answer.Why.{Why}
 pub use Rattle.rpm_qfparse.specs.Tree.{Tree}

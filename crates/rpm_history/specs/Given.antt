@@ -27,7 +27,8 @@ given_in course pkg (Err damage) = []
 
 -- acknowledged: none, unless the command was done
 abbrev pub given_on : (State → Course) → Files → Why → List ℕ
-given_on course files why = if is_done why then given_in course (reopened files).pkg (store (reopened files).pkg) else []
+given_on course files why = if is_done why then given_in course (reopened files).pkg (store (reopened files).pkg)
+    else []
 
 -- a list of numbers rises from one number on, each once, and all are below another
 abbrev pub RiseWithin : ℕ → List ℕ → ℕ → Type 0

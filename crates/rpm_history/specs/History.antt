@@ -1,6 +1,7 @@
--- Several command lines on one disk, one after the other: what the database represents after them, and after a crash. On it rest `leads`,
--- `cuts`, `kept` and `states` of `run_each`.
-use Rattle.std.specs.Prelude.{◌≡◌, ◌⊎◌, ℕ, List, [], ◌∷◌, ◌++◌, Bool, true, false, ◌||◌, IsTrue, Option, Some, None, if◌then◌else◌}
+-- Several command lines on one disk, one after the other: what the database represents after them, and after a crash.
+-- On it rest `leads`, `cuts`, `kept` and `states` of `run_each`.
+use Rattle.std.specs.Prelude.{◌≡◌, ◌⊎◌, ℕ, List, [], ◌∷◌, ◌++◌, Bool, true, false, ◌||◌, IsTrue, Option, Some, None}
+use Rattle.std.specs.Prelude.{if◌then◌else◌}
 use Rattle.std.specs.List.{AllByRecursion}
 use Rattle.rpm_outside.specs.Files.{Files}
 use Rattle.rpm_outside.specs.Logs.{reopened}
@@ -50,14 +51,16 @@ pub record RunCall : Type 0 where
 abbrev pub calls_of : List Line → List Outcome → List RunCall
 calls_of lines [] = []
 calls_of [] (outcome ∷ outcomes) = []
-calls_of (line ∷ lines) (outcome ∷ outcomes) = record { words = line.words.now; moment = line.moment; outcome = outcome } ∷ calls_of lines outcomes
+calls_of (line ∷ lines) (outcome ∷ outcomes) =
+    record { words = line.words.now; moment = line.moment; outcome = outcome } ∷ calls_of lines outcomes
 
 -- a list of lines leads from state s to t: by all changes of each line that was done, and none of one that was
 -- refused
 abbrev pub LeadsByLines : Paths → List RunCall → State → State → Type 0
 LeadsByLines paths [] s t = t ≡ s
 LeadsByLines paths (call ∷ calls) s t =
-    (mid : State) × Moves call.outcome.why (made_by paths call.moment call.words s) s mid × LeadsByLines paths calls mid t
+    (mid : State) × Moves call.outcome.why (made_by paths call.moment call.words s) s mid
+    × LeadsByLines paths calls mid t
 
 -- the first few of these lines lead from state s to t: what a crash within the lines or after them may leave
 abbrev pub Cuts : Paths → List RunCall → State → State → Type 0

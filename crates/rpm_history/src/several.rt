@@ -1,7 +1,7 @@
 //! Several command lines on one disk, one after the other.
 
 ghost use Rattle.std.specs.Prelude.{◌≡◌, ℕ, List, [], length, IsTrue, IfOk, OnErr, OnOk};
-ghost use Rattle.rpm_history.specs.Prelude.{AllRowsFit, AllStand, AreLawfulDatabases, between, calls_of, Cuts, FromOneOf, HasState, images, InTurn, InTurnBefore, IsAhead, LeadsByLines, LeavesIn, LineIs, LineStays, next, RiseWithin, RowsFit, RepresentsState, State, TellsLines};
+ghost use Rattle.rpm_history.specs.Prelude.{AllRowsFit, AllStand, AreLawfulDatabases, between, calls_of, Cuts, FromOneOf, HasState, images, InTurn, InTurnBefore, IsAhead, LeadsByLines, CrashLeaves, LineIs, LineStays, next, RiseWithin, RowsFit, RepresentsState, State, TellsLines};
 
 use rpm_effects::Outcome;
 use rpm_outside::{Disk, Shelf, Sink};
@@ -46,10 +46,10 @@ pub fn run_each<D: Disk, S: Shelf, O: Sink, E: Sink>(
         → AreLawfulDatabases (images D.Disk disk) → AllStand (FromOneOf (images D.Disk disk)
         (LeadsByLines (S.paths shelf.old) (calls_of lines.now outcomes.items))) (images D.Disk result.1)) }
     ensures cuts { IfOk result.0 (λ outcomes. IsTrue D.tells → TellsLines S.tells lines.now
-        → AreLawfulDatabases (images D.Disk disk) → LeavesIn D.Disk disk result.1
+        → AreLawfulDatabases (images D.Disk disk) → CrashLeaves D.Disk disk result.1
         (RepresentsState (FromOneOf (images D.Disk disk) (Cuts (S.paths shelf.old) (calls_of lines.now outcomes.items))))) }
     ensures fits { OnOk result.0 (IsTrue D.tells → TellsLines S.tells lines.now → AreLawfulDatabases (images D.Disk disk)
-        → AllRowsFit (images D.Disk disk) → LeavesIn D.Disk disk result.1 RowsFit) }
+        → AllRowsFit (images D.Disk disk) → CrashLeaves D.Disk disk result.1 RowsFit) }
 
     // Each answer is that of `run` to its line, on what the lines before it left.
     ensures ran { IfOk result.0 (λ outcomes. (given : List ℕ)

@@ -2,15 +2,15 @@
 use Rattle.std.proofs.Common.{◌≡◌, inl, inr, ℕ, zero, suc, Bool, true, List, [], ◌∷◌, ◌++◌, take, refl, sym, ◌∙◌, ap, arith}
 use Rattle.std.specs.Prelude.{Some, slice_get, ◌⊎◌}
 use Rattle.std.proofs.lemmas.List.{take-append-le, length_push}
-use Rattle.rpm_outside.proofs.Vocabulary.{after_steps, Copies, Copy, File, Files, Idx, is_loose, IsCopy, Log, loosened, picked_image, Pkg, SettlesFile, Step}
-use Rattle.rpm_outside.proofs.Vocabulary.{tightened}
+use Rattle.rpm_outside.proofs.Vocabulary.{after_steps, Copies, Copy, File, Files, Idx, is_loose, IsCopy, Log, is_loose_after_write, picked_image, Pkg, SyncsFile, Step}
+use Rattle.rpm_outside.proofs.Vocabulary.{is_loose_after_sync}
 
-pub loosened_same : (file : File) (loose : Bool) → loosened file file loose ≡ true
+pub loosened_same : (file : File) (loose : Bool) → is_loose_after_write file file loose ≡ true
 loosened_same Pkg loose = refl
 loosened_same Idx loose = refl
 loosened_same Log loose = refl
 
-pub loosened_other : (file other : File) (loose : Bool) → (other ≡ file → ⊥) → loosened file other loose ≡ loose
+pub loosened_other : (file other : File) (loose : Bool) → (other ≡ file → ⊥) → is_loose_after_write file other loose ≡ loose
 loosened_other Pkg Pkg loose differ = absurd (differ refl)
 loosened_other Pkg Idx loose differ = refl
 loosened_other Pkg Log loose differ = refl
@@ -21,7 +21,7 @@ loosened_other Log Pkg loose differ = refl
 loosened_other Log Idx loose differ = refl
 loosened_other Log Log loose differ = absurd (differ refl)
 
-pub tightened_other : (file other : File) (loose : Bool) → (other ≡ file → ⊥) → tightened file other loose ≡ loose
+pub tightened_other : (file other : File) (loose : Bool) → (other ≡ file → ⊥) → is_loose_after_sync file other loose ≡ loose
 tightened_other Pkg Pkg loose differ = absurd (differ refl)
 tightened_other Pkg Idx loose differ = refl
 tightened_other Pkg Log loose differ = refl
@@ -35,20 +35,20 @@ tightened_other Log Log loose differ = absurd (differ refl)
 -- the flags of a file after a write
 pub record Loosens (old new : Copies) (file : File) : Type 0 where
   pub kept : new.kept.items ≡ old.kept.items
-  pub pkg : new.loose_pkg ≡ loosened file Pkg old.loose_pkg
-  pub idx : new.loose_idx ≡ loosened file Idx old.loose_idx
-  pub log : new.loose_log ≡ loosened file Log old.loose_log
+  pub pkg : new.loose_pkg ≡ is_loose_after_write file Pkg old.loose_pkg
+  pub idx : new.loose_idx ≡ is_loose_after_write file Idx old.loose_idx
+  pub log : new.loose_log ≡ is_loose_after_write file Log old.loose_log
 
-pub loosens_each : (old new : Copies) (file : File) → Loosens old new file → (f : File) → is_loose new f ≡ loosened file f (is_loose old f)
+pub loosens_each : (old new : Copies) (file : File) → Loosens old new file → (f : File) → is_loose new f ≡ is_loose_after_write file f (is_loose old f)
 loosens_each old new file l Pkg = l.pkg
 loosens_each old new file l Idx = l.idx
 loosens_each old new file l Log = l.log
 
-pub settles_each : (old new : Copies) (file : File) (at : ℕ) (files : Files) → SettlesFile old new file at files → (f : File) → is_loose new f
-    ≡ tightened file f (is_loose old f)
-settles_each old new file at files s Pkg = s.pkg
-settles_each old new file at files s Idx = s.idx
-settles_each old new file at files s Log = s.log
+pub syncs_each : (old new : Copies) (file : File) (at : ℕ) (files : Files) → SyncsFile old new file at files → (f : File) → is_loose new f
+    ≡ is_loose_after_sync file f (is_loose old f)
+syncs_each old new file at files s Pkg = s.pkg
+syncs_each old new file at files s Idx = s.idx
+syncs_each old new file at files s Log = s.log
 
 pub copy_longer : (past : List Step) (step : Step) (first : Files) (copy : Copy) → IsCopy past first copy → IsCopy (past ++ step ∷ []) first copy
 copy_longer past step first copy is =

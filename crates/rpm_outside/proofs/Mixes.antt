@@ -1,7 +1,7 @@
 -- An image stays one if one of its files is replaced by what is read.
 use Rattle.std.proofs.Common.{◌≡◌, ⊎_elim, List, [], ◌∷◌, ◌++◌, refl, sym, ◌∙◌, ap, subst}
 use Rattle.rpm_outside.proofs.Vocabulary.{after_step, after_steps, cases_file, File, file_of, file_of-with, Files, Idx, Images, LeftByStep, LeftBySteps, Log}
-use Rattle.rpm_outside.proofs.Vocabulary.{other_file, Pkg, push_left, put, Step, StepsTo, Synced, Torn, torn_whole, TornFile, Units, with_file, with_itself}
+use Rattle.rpm_outside.proofs.Vocabulary.{other_file, Pkg, push_left, with_units, Step, StepsTo, Synced, Torn, torn_whole, TornFile, Units, with_file, with_itself}
 use Rattle.rpm_outside.proofs.Vocabulary.{Wrote}
 
 with_file-with : (file : File) (a b : Units) (files : Files) → with_file file a (with_file file b files) ≡ with_file file a files
@@ -27,7 +27,7 @@ mixes_step : (step : Step) (files : Files) (images : Files → Type 0) → Mixes
 mixes_step (Wrote h at units) files images mixes g image (from, here, torn) = ⊎_elim same_file another_file (cases_file g h)
   where
     written : Units
-    written = put at units.items (file_of h files)
+    written = with_units at units.items (file_of h files)
 
     after : Files
     after = with_file h written files
@@ -66,10 +66,10 @@ mixes_step (Wrote h at units) files images mixes g image (from, here, torn) = �
               ∙ ap (λ (u : Units). with_file h u x) (sym target_is);
         } in
         (x, mixes g from here, subst (λ (u : Units). TornFile h at units.items x (with_file g u image)) (sym (other_file g h written files differ)) one)
-mixes_step (Synced h) files images mixes g image (here, settled) = (
+mixes_step (Synced h) files images mixes g image (here, durable) = (
   mixes g image here,
   ⊎_elim (λ is. ap (λ (f : File). file_of h (with_file f (file_of f files) image)) is ∙ file_of-with h (file_of h files) image)
-      (λ differ. other_file h g (file_of g files) image (λ e. differ (sym e)) ∙ settled) (cases_file g h),
+      (λ differ. other_file h g (file_of g files) image (λ e. differ (sym e)) ∙ durable) (cases_file g h),
 )
 
 mixes_steps : (steps : List Step) (files : Files) (images : Files → Type 0) → Mixes files images → Mixes (after_steps steps files)
@@ -82,7 +82,7 @@ pub image_step : (past : List Step) (step : Step) (first image next : Files) →
 image_step past (Wrote file at units) first image next here to = push_left past (Wrote file at units) first (λ x. x ≡ first) next (image, here, to)
 image_step past (Synced file) first image next here to =
     let now = after_steps past first in
-    let settled = mixes_steps past first (λ x. x ≡ first) (λ g x is. ap (λ (f : Files). with_file g (file_of g first) f) is
+    let durable = mixes_steps past first (λ x. x ≡ first) (λ g x is. ap (λ (f : Files). with_file g (file_of g first) f) is
     ∙ sym (with_itself g first)) file image here in
     push_left past (Synced file) first (λ x. x ≡ first) next
-    (subst (λ (f : Files). Images past first f) (sym to) settled, ap (λ (f : Files). file_of file f) to ∙ file_of-with file (file_of file now) image)
+    (subst (λ (f : Files). Images past first f) (sym to) durable, ap (λ (f : Files). file_of file f) to ∙ file_of-with file (file_of file now) image)

@@ -3,12 +3,12 @@ use Rattle.std.proofs.Common.{◌≡◌, inl, inr, ℕ, ◌+◌, ◌-◌, Bool, 
 use Rattle.std.proofs.lemmas.List.{get_or_past}
 use Rattle.std.proofs.lemmas.List.FromFn.{length-map-range_with_len, get_or-map-range_with_len}
 use Rattle.std.proofs.lemmas.Bool.{cases_lt}
-use Rattle.rpm_outside.proofs.Vocabulary.{blank, length-put, mixed_unit, put, put_after, put_before, put_inside, range_with_len, same_units, takes_new}
+use Rattle.rpm_outside.proofs.Vocabulary.{blank, length-put, mixed_unit, with_units, put_after, put_before, put_inside, range_with_len, same_units, takes_new}
 use Rattle.rpm_outside.proofs.Vocabulary.{unit_at, Units}
 
 module _ (seed at : ℕ) (units file : Units) where
   abbrev new : Units
-  new = put at units file
+  new = with_units at units file
 
   abbrev unit : ℕ → List ℕ
   unit = mixed_unit seed file new
@@ -33,14 +33,14 @@ module _ (seed at : ℕ) (units file : Units) where
         ∙ sym (get_or_past whole i blank (omega (arith, length-map-range_with_len unit 0 (length new))))
   ]
 
-  each : (i : ℕ) → unit_at (put at (mixed_units (length units)) file) i ≡ unit_at whole i
+  each : (i : ℕ) → unit_at (with_units at (mixed_units (length units)) file) i ≡ unit_at whole i
   each i = elim (cases_lt i at) [
     | inl below ↦ put_before at (mixed_units (length units)) file i below ∙ outside i (put_before at units file i below)
     | inr from ↦ elim (cases_lt i (at + length units)) [
       | inl inside ↦
           let k : ℕ = i - at in
           let place : i ≡ at + k = omega arith in
-          ap (λ (j : ℕ). unit_at (put at (mixed_units (length units)) file) j) place
+          ap (λ (j : ℕ). unit_at (with_units at (mixed_units (length units)) file) j) place
           ∙ put_inside at (mixed_units (length units)) file k (omega (arith, length-map-range_with_len unit at (length units)))
           ∙ get_or-map-range_with_len unit at (length units) k i blank (omega arith) (sym place)
           ∙ sym (get_or-map-range_with_len unit 0 (length new) i i blank (omega (arith, length-put at units file)) (omega arith))
@@ -50,9 +50,9 @@ module _ (seed at : ℕ) (units file : Units) where
     ]
   ]
 
-  pub mixed_whole : put at (mixed_units (length units)) file ≡ whole
+  pub mixed_whole : with_units at (mixed_units (length units)) file ≡ whole
   mixed_whole =
-      same_units (put at (mixed_units (length units)) file) whole
+      same_units (with_units at (mixed_units (length units)) file) whole
       (omega (
         arith,
         length-put at (mixed_units (length units)) file,

@@ -3,13 +3,13 @@ use Rattle.std.proofs.Common.{◌≡◌, ◌⊎◌, inl, inr, ℕ, Bool, true, f
 use Rattle.std.proofs.lemmas.List.{get_or_past}
 use Rattle.std.proofs.lemmas.List.FromFn.{length-map-range_with_len, get_or-map-range_with_len}
 use Rattle.std.proofs.lemmas.Bool.{cases_lt}
-use Rattle.rpm_outside.proofs.Vocabulary.{after_step, after_steps, blank, file_of, file_of-with, Files, length-put, Mixed, mixed_unit, New, Old, Pick, picked}
-use Rattle.rpm_outside.proofs.Vocabulary.{picked_image, picked_step, put, range_with_len, Step, StepsTo, Synced, takes_new, Torn, torn_none, torn_whole}
+use Rattle.rpm_outside.proofs.Vocabulary.{after_step, after_steps, blank, file_of, file_of-with, Files, length-put, Mixed, mixed_unit, New, Old, Pick, units_of_pick}
+use Rattle.rpm_outside.proofs.Vocabulary.{picked_image, picked_step, with_units, range_with_len, Step, StepsTo, Synced, takes_new, Torn, torn_none, torn_whole}
 use Rattle.rpm_outside.proofs.Vocabulary.{unit_at, Units, with_file, Wrote}
 
 module _ (seed at : ℕ) (units file : Units) where
   abbrev new : Units
-  new = put at units file
+  new = with_units at units file
 
   choice : (b : Bool) (i : ℕ) → ((if b then unit_at new i else unit_at file i) ≡ unit_at file i) ⊎ ((if b then unit_at new i else unit_at file i)
       ≡ unit_at new i)
@@ -29,20 +29,26 @@ module _ (seed at : ℕ) (units file : Units) where
         ∙ sym (get_or_past file i blank (omega (arith, length-put at units file))))
   ]
 
-picked_torn : (pick : Pick) (at : ℕ) (units file : Units) → Torn at units file (picked pick at units file)
-unfolding picked
+picked_torn : (pick : Pick) (at : ℕ) (units file : Units) → Torn at units file (units_of_pick pick at units file)
+unfolding units_of_pick
 picked_torn Old at units file = torn_none at units file
 picked_torn New at units file = torn_whole at units file
 picked_torn (Mixed seed) at units file = record {
   each = mixed_is seed at units file;
-  no_shorter = omega (arith, length-put at units file, length-map-range_with_len (mixed_unit seed file (put at units file)) 0 (length (put at units file)));
-  no_longer = omega (arith, length-map-range_with_len (mixed_unit seed file (put at units file)) 0 (length (put at units file)));
+  no_shorter =
+      omega (
+        arith,
+        length-put at units file,
+        length-map-range_with_len (mixed_unit seed file (with_units at units file)) 0
+            (length (with_units at units file)),
+      );
+  no_longer = omega (arith, length-map-range_with_len (mixed_unit seed file (with_units at units file)) 0 (length (with_units at units file)));
 }
 
 pub picked_step_to : (pick : Pick) (step : Step) (files image : Files) → StepsTo step files image (picked_step pick step files image)
 picked_step_to pick (Synced file) files image = refl
 picked_step_to pick (Wrote file at units) files image =
-    let next = picked pick at units.items (file_of file image) in
+    let next = units_of_pick pick at units.items (file_of file image) in
     let is = file_of-with file next image in
     record {
       torn = subst (λ (u : Units). Torn at units.items (file_of file image) u) (sym is) (picked_torn pick at units.items (file_of file image));

@@ -2,7 +2,7 @@
 use Rattle.std.proofs.Common.{◌≡◌, ◌⊎◌, inl, inr, ⊎_elim, ℕ, ◌+◌, ◌<◌, ◌/◌, Bool, true, false, List, [], ◌∷◌, ◌++◌, take, length, sym, ◌∙◌, ap, subst, arith}
 use Rattle.std.proofs.lemmas.List.{length-take, get_or-take, length_push}
 use Rattle.rpm_outside.proofs.Vocabulary.{after_step, after_steps, after_steps-push, blank, Elapses, elapses_push, elapses_same, File, file_of, Files}
-use Rattle.rpm_outside.proofs.Vocabulary.{follows_none, follows_write, ImagesSince, length-put, OnlyAfter, part_of, put, put_cases, put_inside, RisesOrStays}
+use Rattle.rpm_outside.proofs.Vocabulary.{follows_none, follows_write, ImagesSince, length-put, OnlyAfter, part_of, with_units, put_cases, put_inside, RisesOrStays}
 use Rattle.rpm_outside.proofs.Vocabulary.{Rose, Step, Torn, torn_file_none, torn_file_whole, TornFile, unit_at, Units, with_file, Wrote, WroteAny, WroteOnce}
 
 -- a write of some of the first units is one of all that was cut short
@@ -13,15 +13,15 @@ torn_take at n units old new torn = record {
   no_longer = omega (arith, torn.no_longer, length-put at units old, length-put at (take n units) old, length-take n units);
 }
   where
-    at_unit : (i : ℕ) → unit_at new i ≡ unit_at (put at (take n units) old) i
-        → (unit_at (put at (take n units) old) i ≡ unit_at old i) ⊎ ((k : ℕ) × (k < length (take n units)) × (i ≡ at + k)
-        × (unit_at (put at (take n units) old) i ≡ unit_at (take n units) k))
-        → (unit_at new i ≡ unit_at old i) ⊎ (unit_at new i ≡ unit_at (put at units old) i)
+    at_unit : (i : ℕ) → unit_at new i ≡ unit_at (with_units at (take n units) old) i
+        → (unit_at (with_units at (take n units) old) i ≡ unit_at old i) ⊎ ((k : ℕ) × (k < length (take n units)) × (i ≡ at + k)
+        × (unit_at (with_units at (take n units) old) i ≡ unit_at (take n units) k))
+        → (unit_at new i ≡ unit_at old i) ⊎ (unit_at new i ≡ unit_at (with_units at units old) i)
     at_unit i written (inl same) = inl (written ∙ same)
     at_unit i written (inr (k, below, place, is)) =
         let front : k < n = omega (arith, below, length-take n units) in
         let inside : k < length units = omega (arith, below, length-take n units) in
-        inr (written ∙ is ∙ get_or-take n units k blank front ∙ sym (put_inside at units old k inside) ∙ ap (λ (j : ℕ). unit_at (put at units old) j)
+        inr (written ∙ is ∙ get_or-take n units k blank front ∙ sym (put_inside at units old k inside) ∙ ap (λ (j : ℕ). unit_at (with_units at units old) j)
         (sym place))
 
 pub torn_part : (half : Bool) (file : File) (at : ℕ) (units : Units) (old new : Files) → TornFile file at (part_of half units) old new → TornFile file
@@ -67,7 +67,7 @@ module _ (first old new : Files) (past steps : List Step) (file : File) (at : �
   once_left write = record {
     replayed = λ is.
         write.files
-        ∙ ap (λ (us : Units). with_file file (put at us (file_of file old)) old) (sym write.is)
+        ∙ ap (λ (us : Units). with_file file (with_units at us (file_of file old)) old) (sym write.is)
         ∙ ap (λ (f : Files). after_step (Wrote file at write.kept) f) is
         ∙ sym (after_steps-push past (Wrote file at write.kept) first)
         ∙ ap (λ (s : List Step). after_steps s first) (sym write.step);

@@ -4,15 +4,15 @@ use Rattle.std.proofs.lemmas.List.{drop-drop, take-append-le, take_all, length-t
 use Rattle.std.proofs.lemmas.Option.{slice_get-get_or}
 use Rattle.std.proofs.lemmas.Map.Text.{is_eq-slice_cmp}
 use Rattle.std.specs.Prelude.{string_bytes}
-use Rattle.rpm_outside.proofs.Vocabulary.{bytes_at, bytes_eq, bytes_in, entry_of, find, get-from_entries, Item, nat_cmp, option_map, paths_of, slice_cmp}
+use Rattle.rpm_outside.proofs.Vocabulary.{bytes_at, bytes_eq, bytes_in, entry_of_item, find, get-from_entries, Item, nat_cmp, option_map, paths_of, slice_cmp}
 use Rattle.rpm_outside.proofs.Vocabulary.{TakesFront}
 use Rattle.std.proofs.lemmas.Cmp.{nat_list_cmp_total}
 
 abbrev pub find_in : List ℕ → List Item → Option (List ℕ)
-find_in path items = find (slice_cmp nat_cmp) path (map entry_of items)
+find_in path items = find (slice_cmp nat_cmp) path (map entry_of_item items)
 
 pub paths_find : (path : List ℕ) (items : List Item) → bytes_at (paths_of items) path ≡ find_in path items
-paths_find path items = get-from_entries nat_list_cmp_total (map entry_of items) path
+paths_find path items = get-from_entries nat_list_cmp_total (map entry_of_item items) path
 
 module _ (path : List ℕ) (items : List Item) (i : ℕ) (item : Item) (below : i < length items) (is : item ≡ get_or items i item) where
   step : find_in path (drop i items) ≡ cond (bytes_eq path (string_bytes item.path)) (Some item.bytes.items) (find_in path (drop (suc i) items))

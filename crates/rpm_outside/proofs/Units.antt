@@ -3,7 +3,7 @@ use Rattle.std.proofs.Common.{◌≡◌, ◌⊎◌, inl, inr, ℕ, zero, suc, �
 use Rattle.std.proofs.lemmas.List.{drop-drop, drop_all, take_all, take-append-le, take-replicate, length-replicate, append-nil}
 use Rattle.std.proofs.lemmas.Bool.{cases_lt}
 use Rattle.std.proofs.Math.Seq.{take-append-add}
-use Rattle.rpm_outside.proofs.Vocabulary.{blank, cut_up, put, Units}
+use Rattle.rpm_outside.proofs.Vocabulary.{blank, cut_up, with_units, Units}
 
 cut_up_suc : (n : ℕ) (bytes : List ℕ) → cut_up (suc n) bytes ≡ cut_up n bytes ++ take 16 (drop (16 * n) bytes) ∷ []
 cut_up_suc zero bytes = refl
@@ -16,8 +16,8 @@ cut_up_more n bytes = ap (λ (k : ℕ). cut_up k bytes) (add-one n) ∙ cut_up_s
 
 -- a file that was lengthened with zeros, and then written in place
 pub put_in_place : (at : ℕ) (units file longer : Units) → longer ≡ file ++ replicate (at + length units - length file) blank → take at longer ++ units
-    ++ drop (at + length units) longer ≡ put at units file
-unfolding put
+    ++ drop (at + length units) longer ≡ with_units at units file
+unfolding with_units
 put_in_place at units file longer is =
     let gap = at - length file in
     let more = at + length units - length file in

@@ -3,13 +3,13 @@ use Rattle.std.specs.Prelude.{◌≡◌, ℕ, ◌≤◌, IsTrue, List, [], ◌++
 use Rattle.rpm_outside.specs.declared.shelf.Shelf as shelf
 
 -- the bytes that reads will give, none where no item is open
-abbrev pub left : Option (List ℕ) → List ℕ
-left None = []
-left (Some bytes) = bytes
+abbrev pub bytes_left : Option (List ℕ) → List ℕ
+bytes_left None = []
+bytes_left (Some bytes) = bytes
 
 -- the item gave these bytes from the front of what was left of it; an open item stays open, and none is opened
 pub record Takes (old new : Option (List ℕ)) (taken : List ℕ) : Type 0 where
-  pub front : left old ≡ taken ++ left new
+  pub front : bytes_left old ≡ taken ++ bytes_left new
   pub opened : is_some new ≡ is_some old
 
 -- some bytes were

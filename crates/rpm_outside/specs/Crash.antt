@@ -3,13 +3,13 @@ use Rattle.std.specs.Prelude.{◌≡◌, ◌⊎◌, ℕ, ◌≤◌, length}
 use Rattle.rpm_outside.specs.declared.disk.File.{File}
 use Rattle.rpm_outside.specs.declared.disk.File.TheVariants.{Pkg, Idx, Log}
 use Rattle.rpm_outside.specs.Causes.{Rose}
-use Rattle.rpm_outside.specs.Files.{Units, Files, file_of, with_file, unit_at, put}
+use Rattle.rpm_outside.specs.Files.{Units, Files, file_of, with_file, unit_at, with_units}
 
 -- a write that was cut short: each unit is the old one or the written one, and any length between
 pub record Torn (at : ℕ) (units old new : Units) : Type 0 where
-  pub each : (i : ℕ) → (unit_at new i ≡ unit_at old i) ⊎ (unit_at new i ≡ unit_at (put at units old) i)
+  pub each : (i : ℕ) → (unit_at new i ≡ unit_at old i) ⊎ (unit_at new i ≡ unit_at (with_units at units old) i)
   pub no_shorter : length old ≤ length new
-  pub no_longer : length new ≤ length (put at units old)
+  pub no_longer : length new ≤ length (with_units at units old)
 
 -- one of three files became this by a write that was cut short, and the other two stay
 pub record TornFile (file : File) (at : ℕ) (units : Units) (old new : Files) : Type 0 where
@@ -26,14 +26,14 @@ pub record Elapses (before now : ℕ) (past since : ℕ → Files → Type 0) : 
   pub nothing_else : (t : ℕ) (image : Files) → t ≤ before → since t image → past t image ⊎ since now image
 
 -- nothing changes, neither the files nor their images
-pub record Untouched (old new : Files) (past since : ℕ → Files → Type 0) : Type 0 where
+pub record IsUntouched (old new : Files) (past since : ℕ → Files → Type 0) : Type 0 where
   pub same : new ≡ old
   pub images : (t : ℕ) (image : Files) → since t image → past t image
   pub kept : (t : ℕ) (image : Files) → past t image → since t image
 
 -- a failing call took a moment of its own, or it did nothing
 abbrev pub RisesOrStays : ℕ → ℕ → Files → Files → (ℕ → Files → Type 0) → (ℕ → Files → Type 0) → Type 0
-RisesOrStays before now old new past since = Rose before now ⊎ ((now ≡ before) × Untouched old new past since)
+RisesOrStays before now old new past since = Rose before now ⊎ ((now ≡ before) × IsUntouched old new past since)
 
 -- one of these images became this one by a write that was cut short
 abbrev pub WasTorn : File → ℕ → Units → (Files → Type 0) → Files → Type 0

@@ -18,7 +18,8 @@ Covers (entry ∷ entries) file i = HasUnit entry file i ⊎ Covers entries file
 
 -- how long an entry leaves a file of this length
 abbrev pub end_in : File → Entry → ℕ → ℕ
-end_in file entry long = ⊎_elim (λ same. max long (entry.first + length entry.units)) (λ differ. long) (cases_file file entry.file)
+end_in file entry long =
+    ⊎_elim (λ same. max long (entry.first + length entry.units)) (λ differ. long) (cases_file file entry.file)
 
 -- the length of a file after a list of entries
 abbrev pub ends_in : File → List Entry → ℕ → ℕ
@@ -27,6 +28,7 @@ ends_in file (entry ∷ entries) long = ends_in file entries (end_in file entry 
 
 -- files that differ from the old ones where these entries write alone, and are no longer than these make them
 pub record Within (entries : List Entry) (old new : Files) : Type 0 where
-  pub each : (file : File) (i : ℕ) → (unit_at (file_of file new) i ≡ unit_at (file_of file old) i) ⊎ Covers entries file i
+  pub each : (file : File) (i : ℕ) → (unit_at (file_of file new) i ≡ unit_at (file_of file old) i)
+      ⊎ Covers entries file i
   pub no_shorter : (file : File) → length (file_of file old) ≤ length (file_of file new)
   pub no_longer : (file : File) → length (file_of file new) ≤ ends_in file entries (length (file_of file old))

@@ -1,5 +1,6 @@
 -- Files of units, and what a write does to one.
-use Rattle.std.specs.Prelude.{◌≡◌, ◌<◌, ◌≤◌, ◌⊎◌, ℕ, ◌+◌, ◌-◌, ◌/◌, ◌%◌, ◌^◌, List, [], ◌∷◌, ◌++◌, length, take, drop, replicate, slice_index_or}
+use Rattle.std.specs.Prelude.{◌≡◌, ◌<◌, ◌≤◌, ◌⊎◌, ℕ, ◌+◌, ◌-◌, ◌/◌, ◌%◌, ◌^◌, List, [], ◌∷◌, ◌++◌, length, take, drop}
+use Rattle.std.specs.Prelude.{replicate, slice_index_or}
 use Rattle.std.proofs.Common.{zero, suc, inl, inr, refl}
 use Rattle.rpm_outside.specs.declared.disk.File.{File}
 use Rattle.rpm_outside.specs.declared.disk.File.TheVariants.{Pkg, Idx, Log}
@@ -65,8 +66,8 @@ abbrev pub AreWhole : Units → Type 0
 AreWhole units = (k : ℕ) → length (unit_at units k) ≡ 16
 
 -- the file with these units from this one on; units between its end and them are zeros
-unfoldable pub put : ℕ → Units → Units → Units
-put at units file = take at file ++ replicate (at - length file) blank ++ units ++ drop (at + length units) file
+unfoldable pub with_units : ℕ → Units → Units → Units
+with_units at units file = take at file ++ replicate (at - length file) blank ++ units ++ drop (at + length units) file
 
 -- bytes that one write takes from this unit on: whole units, one at least, none past the greatest size of a file
 pub record FitsAt (unit : ℕ) (bytes : List ℕ) : Type 0 where

@@ -8,15 +8,14 @@ pub mod Crash
 pub mod Entries
 pub mod Files
 pub mod Frame
-pub mod inner
+pub mod Leaves
 pub mod Literal
 pub mod LogWrites
-pub mod Leaves
 pub mod Logs
 pub mod Looks
-pub mod MemSink
-pub mod MemShelf
 pub mod MemDisk
+pub mod MemShelf
+pub mod MemSink
 pub mod Past
 pub mod Picks
 pub mod Prelude
@@ -24,3 +23,5 @@ pub mod Shelves
 pub mod SinkFrame
 pub mod Sinks
 pub mod Words
+pub mod inner
+pub mod laws

@@ -8,7 +8,7 @@ use Rattle.rpm_outside.specs.declared.disk.File.TheVariants.{Pkg, Idx, Log}
 use Rattle.rpm_outside.specs.Causes.{Rose, CountsFailures}
 use Rattle.rpm_outside.specs.Files.{Files, units_of}
 use Rattle.rpm_outside.specs.Calls.{Call, Write, Sync}
-use Rattle.rpm_outside.specs.Past.{held_files, part_of, DidNothing, WroteAny, SettledOnce}
+use Rattle.rpm_outside.specs.Past.{held_files, part_of, DidNothing, WroteAny, DurableOnce}
 
 -- what a read gives
 abbrev pub mem_files : MemDisk → Files
@@ -44,7 +44,7 @@ mem_read disk Pkg = disk.read_pkg
 mem_read disk Idx = disk.read_idx
 mem_read disk Log = disk.read_log
 
--- files that are settled, and nothing counted
+-- files that are durable, and nothing counted
 pub record IsNew (disk : MemDisk) (begun : Files) : Type 0 where
   pub files : mem_files disk ≡ begun
   pub first : mem_first disk ≡ begun
@@ -66,13 +66,15 @@ pub record SameButFailing (old new : MemDisk) : Type 0 where
   pub reads : (file : File) → mem_read new file ≡ mem_read old file
 
 -- the calls are counted from 1, and the last one is among those that were named
-abbrev pub is_named : MemDisk → Bool
-is_named disk = list_any (λ call. call == mem_calls disk) (mem_failing disk)
+abbrev pub is_named_call : MemDisk → Bool
+is_named_call disk = list_any (λ call. call == mem_calls disk) (mem_failing disk)
 
--- what a call does: of a write the first half of its units, rounded down, or all of them; of any other call nothing, or all
+-- what a call does: of a write the first half of its units, rounded down, or all of them; of any other call nothing, or
+-- all
 abbrev pub DiskDoes : Bool → Call → Files → Files → List Step → List Step → Type 0
-DiskDoes half (Write file unit bytes) old new past steps = WroteAny old new past steps file unit (part_of half (units_of bytes))
-DiskDoes false (Sync file) old new past steps = SettledOnce old new past steps file
+DiskDoes half (Write file unit bytes) old new past steps =
+    WroteAny old new past steps file unit (part_of half (units_of bytes))
+DiskDoes false (Sync file) old new past steps = DurableOnce old new past steps file
 DiskDoes half call old new past steps = DidNothing old new past steps
 
 -- what a call of the disk in memory does, whole or by half
@@ -84,7 +86,8 @@ pub record Starves (old new : MemDisk) : Type 0 where
   pub rose : Rose (mem_starved old) (mem_starved new)
   pub nothing : DidNothing (mem_files old) (mem_files new) (mem_steps old) (mem_steps new)
 
--- a call fails where it was named, or where memory was wanting, and nowhere else; and nothing else is done or kept than what it asks for
+-- a call fails where it was named, or where memory was wanting, and nowhere else; and nothing else is done or kept than
+-- what it asks for
 pub record FailsWhereNamed (old : MemDisk) (call : Call) (failed : Bool) (new : MemDisk) : Type 0 where
   pub counted : mem_calls new ≡ min (mem_calls old + 1) (2 ^ 64 - 1)
   pub failing : mem_failing new ≡ mem_failing old
@@ -92,8 +95,8 @@ pub record FailsWhereNamed (old : MemDisk) (call : Call) (failed : Bool) (new : 
   pub faults : CountsFailures failed (mem_faults old) (mem_faults new)
   pub later : mem_starved old ≤ mem_starved new
   pub by_one : mem_starved new ≤ mem_starved old + 1
-  pub named : is_named new ≡ true → failed ≡ true
-  pub half : is_named new ≡ true → DiskDid true call old new ⊎ Starves old new
+  pub named : is_named_call new ≡ true → failed ≡ true
+  pub half : is_named_call new ≡ true → DiskDid true call old new ⊎ Starves old new
   pub whole : failed ≡ false → DiskDid false call old new
   pub starved : mem_starved old < mem_starved new → (failed ≡ true) × Starves old new
-  pub cause : failed ≡ true → is_named new ≡ false → Starves old new
+  pub cause : failed ≡ true → is_named_call new ≡ false → Starves old new

@@ -1,5 +1,6 @@
 -- What the shelf in memory holds, and when a read fails.
-use Rattle.std.specs.Prelude.{◌≡◌, ℕ, ◌+◌, ◌-◌, ◌^◌, ◌≤◌, min, length, Bool, List, map, drop, slice_get, Option, Some, None, false, ◌==◌, string_bytes}
+use Rattle.std.specs.Prelude.{◌≡◌, ℕ, ◌+◌, ◌-◌, ◌^◌, ◌≤◌, min, length, Bool, List, map, drop, slice_get, Option, Some}
+use Rattle.std.specs.Prelude.{None, false, ◌==◌, string_bytes}
 use Rattle.std.specs.Option.{option_map, option_map_or}
 use Rattle.std.specs.FinMap.{from_entries}
 use Rattle.rpm_outside.specs.declared.mem_shelf.Item.{Item}
@@ -9,12 +10,12 @@ use Rattle.rpm_outside.specs.Causes.{CountsFailures}
 use Rattle.rpm_outside.specs.Shelves.{Paths, ShelfCall, Open, Take}
 
 -- an item of a shelf as its path and its bytes
-abbrev pub entry_of : Item → List ℕ × List ℕ
-entry_of item = (string_bytes item.path, item.bytes.items)
+abbrev pub entry_of_item : Item → List ℕ × List ℕ
+entry_of_item item = (string_bytes item.path, item.bytes.items)
 
 -- a shelf has the items by path; where two have one path the first counts
 abbrev pub paths_of : List Item → Paths
-paths_of items = from_entries (map entry_of items)
+paths_of items = from_entries (map entry_of_item items)
 
 -- the bytes of an item, by its place
 abbrev pub bytes_in : List Item → ℕ → Option (List ℕ)
@@ -25,9 +26,9 @@ abbrev pub left_in : List Item → Opened → Option (List ℕ)
 left_in items opened = option_map (drop opened.at) (bytes_in items opened.item)
 
 -- what is left to read, where an item is open
-abbrev pub rest_of : List Item → Option Opened → Option (List ℕ)
-rest_of items None = None
-rest_of items (Some opened) = left_in items opened
+abbrev pub rest_of_item : List Item → Option Opened → Option (List ℕ)
+rest_of_item items None = None
+rest_of_item items (Some opened) = left_in items opened
 
 -- the contents of the shelf, by path
 abbrev pub shelf_paths : MemShelf → Paths
@@ -35,7 +36,7 @@ shelf_paths shelf = paths_of shelf.items.items
 
 -- what is left to read of the opened item
 abbrev pub shelf_rest : MemShelf → Option (List ℕ)
-shelf_rest shelf = rest_of shelf.items.items shelf.opened
+shelf_rest shelf = rest_of_item shelf.items.items shelf.opened
 
 -- how many bytes a read takes at most
 abbrev pub shelf_most : MemShelf → ℕ

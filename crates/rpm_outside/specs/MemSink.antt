@@ -24,21 +24,22 @@ abbrev pub sink_starved : MemSink → ℕ
 sink_starved sink = sink.starved
 
 -- a sink is full when it took as many bytes as it may take
-abbrev pub IsFull : MemSink → Type 0
-IsFull sink = IsSomeAnd (sink_limit sink) (λ most. most ≤ length (sink_bytes sink))
+abbrev pub IsSinkFull : MemSink → Type 0
+IsSinkFull sink = IsSomeAnd (sink_limit sink) (λ most. most ≤ length (sink_bytes sink))
 
 -- the sink holds no more than it may, or than it held
 abbrev pub HoldsNoMore : MemSink → MemSink → Type 0
 HoldsNoMore old new = IfSome (sink_limit old) (λ most. length (sink_bytes new) ≤ max most (length (sink_bytes old)))
 
--- a write fails where the sink is full, or where memory was wanting, and nowhere else; none takes more than so many bytes
+-- a write fails where the sink is full, or where memory was wanting, and nowhere else; none takes more than so many
+-- bytes
 pub record FailsWhereFull (old : MemSink) (failed : Bool) (new : MemSink) : Type 0 where
-  pub full : IsFull old → failed ≡ true
+  pub full : IsSinkFull old → failed ≡ true
   pub faults : CountsFailures failed (sink_faults old) (sink_faults new)
   pub later : sink_starved old ≤ sink_starved new
   pub by_one : sink_starved new ≤ sink_starved old + 1
   pub starved : sink_starved old < sink_starved new → failed ≡ true
-  pub cause : failed ≡ true → IsFull old ⊎ Rose (sink_starved old) (sink_starved new)
+  pub cause : failed ≡ true → IsSinkFull old ⊎ Rose (sink_starved old) (sink_starved new)
   pub limit : sink_limit new ≡ sink_limit old
   pub most : sink_most new ≡ sink_most old
   pub few : length (sink_bytes new) ≤ length (sink_bytes old) + sink_most old

@@ -5,7 +5,7 @@ use Rattle.rpm_outside.specs.declared.disk.File.{File}
 use Rattle.rpm_outside.specs.declared.steps.Step.{Step}
 use Rattle.rpm_outside.specs.declared.steps.Step.TheVariants.{Wrote, Synced}
 use Rattle.rpm_outside.specs.declared.steps.Held.{Held}
-use Rattle.rpm_outside.specs.Files.{Units, Files, file_of, with_file, put}
+use Rattle.rpm_outside.specs.Files.{Units, Files, file_of, with_file, with_units}
 use Rattle.rpm_outside.specs.Crash.{TornFile}
 
 -- the files that a value holds
@@ -14,7 +14,7 @@ held_files held = record { pkg = held.pkg.items; idx = held.idx.items; log = hel
 
 -- what is read after a step
 abbrev pub after_step : Step → Files → Files
-after_step (Wrote file at units) files = with_file file (put at units.items (file_of file files)) files
+after_step (Wrote file at units) files = with_file file (with_units at units.items (file_of file files)) files
 after_step (Synced file) files = files
 
 -- the files after a list of steps
@@ -24,7 +24,8 @@ after_steps (step ∷ steps) files = after_steps steps (after_step step files)
 
 -- what a crash may leave after a step, where it may leave these images before it and this is read
 abbrev pub LeftByStep : Step → Files → (Files → Type 0) → Files → Type 0
-LeftByStep (Wrote file at units) files images image = (from : Files) × images from × TornFile file at units.items from image
+LeftByStep (Wrote file at units) files images image = (from : Files) × images from
+    × TornFile file at units.items from image
 LeftByStep (Synced file) files images image = images image × (file_of file image ≡ file_of file files)
 
 -- what a crash leaves after a list of steps
@@ -32,7 +33,7 @@ abbrev pub LeftBySteps : List Step → Files → (Files → Type 0) → Files �
 LeftBySteps [] files images = images
 LeftBySteps (step ∷ steps) files images = LeftBySteps steps (after_step step files) (LeftByStep step files images)
 
--- the images of the moment after these steps from settled files
+-- the images of the moment after these steps from durable files
 abbrev pub Images : List Step → Files → Files → Type 0
 Images steps first = LeftBySteps steps first (λ image. image ≡ first)
 
@@ -49,7 +50,7 @@ pub record WroteOnce (old new : Files) (past steps : List Step) (file : File) (a
   pub kept : Vec (List ℕ) Global
   pub is : kept.items ≡ units
   pub step : steps ≡ past ++ Wrote file at kept ∷ []
-  pub files : new ≡ with_file file (put at units (file_of file old)) old
+  pub files : new ≡ with_file file (with_units at units (file_of file old)) old
 
 -- nothing was done, and nothing is kept
 pub record DidNothing (old new : Files) (past steps : List Step) : Type 0 where
@@ -61,8 +62,8 @@ abbrev pub WroteAny : Files → Files → List Step → List Step → File → �
 WroteAny old new past steps file at [] = DidNothing old new past steps
 WroteAny old new past steps file at (unit ∷ units) = WroteOnce old new past steps file at (unit ∷ units)
 
--- a file was settled, and that is kept as a step
-pub record SettledOnce (old new : Files) (past steps : List Step) (file : File) : Type 0 where
+-- a file was made durable, and that is kept as a step
+pub record DurableOnce (old new : Files) (past steps : List Step) (file : File) : Type 0 where
   pub files : new ≡ old
   pub step : steps ≡ past ++ Synced file ∷ []
 

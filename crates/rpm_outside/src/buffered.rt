@@ -1,7 +1,7 @@
 //! A sink with a buffer in front of it.
 
 ghost use Rattle.std.specs.Prelude.{◌≡◌, ◌++◌, [], IsTrue, IsFalse};
-ghost use Rattle.rpm_outside.specs.Buffered.{holds, inner};
+ghost use Rattle.rpm_outside.specs.Buffered.{held_bytes, inner};
 
 use crate::Sink;
 use arrayvec::ArrayVec;
@@ -22,7 +22,7 @@ impl<O: Sink + Drop> Buffered<O> {
     /// A buffer that holds nothing, in front of a sink.
     pub fn new(sink: O) -> Buffered<O>
         ensures inner { inner result ≡ sink }
-        ensures holds { holds result ≡ [] }
+        ensures holds { held_bytes result ≡ [] }
     {
         Buffered {
             sink,
@@ -48,7 +48,7 @@ impl<O: Sink + Drop> Buffered<O> {
     /// Lets go of all that is held.
     pub fn clear(&mut self)
         ensures inner { inner self.new ≡ inner self.old }
-        ensures holds { holds self.new ≡ [] }
+        ensures holds { held_bytes self.new ≡ [] }
     {
         self.held.clear();
         self.gone = 0;
@@ -57,8 +57,8 @@ impl<O: Sink + Drop> Buffered<O> {
     /// Holds these bytes too, where there is room.
     pub(crate) fn keep(&mut self, bytes: &[u8]) -> bool
         ensures inner { inner self.new ≡ inner self.old }
-        ensures kept { IsTrue result → holds self.new ≡ holds self.old ++ bytes.now }
-        ensures same { IsFalse result → holds self.new ≡ holds self.old }
+        ensures kept { IsTrue result → held_bytes self.new ≡ held_bytes self.old ++ bytes.now }
+        ensures same { IsFalse result → held_bytes self.new ≡ held_bytes self.old }
     {
         self.gone == 0 && self.held.try_extend_from_slice(bytes).is_ok()
     }

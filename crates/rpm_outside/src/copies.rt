@@ -1,22 +1,22 @@
 //! Copies of the files of a disk in memory, from which an image is made without a replay from the start.
 
 ghost use Rattle.std.specs.Prelude.{◌≡◌, ◌≤◌, ◌++◌, ◌∷◌, [], false, IfOk, IfSome, slice_get};
-ghost use Rattle.rpm_outside.specs.Prelude.{HasCopy, held_files, is_loose, KeepsCopy, loosened, SettlesFile, StartsFrom, tightened};
+ghost use Rattle.rpm_outside.specs.Prelude.{HasCopy, held_files, is_loose, KeepsCopy, is_loose_after_write, SyncsFile, StartsFrom, is_loose_after_sync};
 
 use crate::File;
 use crate::steps::{Held, copy_of};
 use std::alloc::{AllocError, Global};
 
-/// The files at a moment at which each of them was settled, so that a crash left them as they read.
+/// The files at a moment at which each of them was made durable, so that a crash left them as they read.
 #[derive(Drop)]
 pub struct Copy {
     at: usize,
     files: Held,
 }
 
-/// Copies of some of the moments at which all files were settled.
+/// Copies of some of the moments at which all files were durable.
 ///
-/// A sync makes one where all files are settled then, and as many units were written since the last copy as the files
+/// A sync makes one where all files are durable then, and as many units were written since the last copy as the files
 /// have. So all copies together cost no more time and memory than the writes did.
 #[derive(Drop)]
 pub struct Copies {
@@ -30,7 +30,7 @@ pub struct Copies {
 }
 
 impl Copies {
-    /// No copies, of files that are settled.
+    /// No copies, of files that are durable.
     pub fn new(alloc: Global) -> Copies
         ensures kept { result.kept.items ≡ [] }
         ensures pkg { result.loose_pkg ≡ false }
@@ -49,9 +49,9 @@ impl Copies {
     /// So many units of a file were written.
     pub fn loosen(&mut self, file: File, units: u64)
         ensures kept { self.new.kept.items ≡ self.old.kept.items }
-        ensures pkg { self.new.loose_pkg ≡ loosened file File.Pkg self.old.loose_pkg }
-        ensures idx { self.new.loose_idx ≡ loosened file File.Idx self.old.loose_idx }
-        ensures log { self.new.loose_log ≡ loosened file File.Log self.old.loose_log }
+        ensures pkg { self.new.loose_pkg ≡ is_loose_after_write file File.Pkg self.old.loose_pkg }
+        ensures idx { self.new.loose_idx ≡ is_loose_after_write file File.Idx self.old.loose_idx }
+        ensures log { self.new.loose_log ≡ is_loose_after_write file File.Log self.old.loose_log }
     {
         self.written = self.written.saturating_add(units);
         match file {
@@ -63,9 +63,9 @@ impl Copies {
 
     fn tighten(&mut self, file: File)
         ensures kept { self.new.kept.items ≡ self.old.kept.items }
-        ensures pkg { self.new.loose_pkg ≡ tightened file File.Pkg self.old.loose_pkg }
-        ensures idx { self.new.loose_idx ≡ tightened file File.Idx self.old.loose_idx }
-        ensures log { self.new.loose_log ≡ tightened file File.Log self.old.loose_log }
+        ensures pkg { self.new.loose_pkg ≡ is_loose_after_sync file File.Pkg self.old.loose_pkg }
+        ensures idx { self.new.loose_idx ≡ is_loose_after_sync file File.Idx self.old.loose_idx }
+        ensures log { self.new.loose_log ≡ is_loose_after_sync file File.Log self.old.loose_log }
     {
         match file {
             File::Pkg => self.loose_pkg = false,
@@ -89,9 +89,9 @@ impl Copies {
         self.written = 0;
     }
 
-    /// A file was settled, and it is this moment now. Where a copy is due and memory is wanting, none is made.
-    pub fn settle(&mut self, alloc: Global, file: File, at: usize, files: &Held)
-        ensures { SettlesFile self.old self.new file at (held_files files.now) }
+    /// A file was made durable, and it is this moment now. Where a copy is due and memory is wanting, none is made.
+    pub fn note_sync(&mut self, alloc: Global, file: File, at: usize, files: &Held)
+        ensures { SyncsFile self.old self.new file at (held_files files.now) }
     {
         self.tighten(file);
         let loose = self.loose_pkg || (self.loose_idx || self.loose_log);

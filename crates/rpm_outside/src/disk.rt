@@ -1,7 +1,7 @@
 //! A disk of three files, and what a crash at any moment may leave of them.
 
 ghost use Rattle.std.specs.Prelude.{◌≡◌, ◌<◌, ◌≤◌, ◌+◌, ◌/◌, ◌%◌, ◌^◌, Bool, IsTrue, ℕ, length, take, drop, is_err, IfOk, OnOk, OnErr};
-ghost use Rattle.rpm_outside.specs.Prelude.{bytes_for, Call, Elapses, File, file_of, Files, FitsAt, HasCause, Len, OnlyAfter, put, Read, RisesOrStays, Rose, RoseBy, Sync, TornFile, units_of, Untouched, with_file, Write};
+ghost use Rattle.rpm_outside.specs.Prelude.{bytes_for, Call, Elapses, File, file_of, Files, FitsAt, HasCause, Len, OnlyAfter, with_units, Read, RisesOrStays, Rose, RoseBy, Sync, TornFile, units_of, IsUntouched, with_file, Write};
 
 use crate::Failed;
 
@@ -50,7 +50,7 @@ pub trait Disk {
     /// `Failed` only where the count of faults rose.
     fn len(&mut self, file: File) -> Result<u64, Failed>
         ensures length { IsTrue tells → IfOk result (λ n. n ≡ length (file_of file (files self.old))) }
-        ensures untouched { IsTrue tells → Untouched (files self.old) (files self.new) (left_since self.old) (left_since self.new) }
+        ensures untouched { IsTrue tells → IsUntouched (files self.old) (files self.new) (left_since self.old) (left_since self.new) }
         ensures moment { moment self.new ≡ moment self.old }
         ensures reads { (f : File) → bytes_read self.new f ≡ bytes_read self.old f }
         ensures cause { HasCause (faults self.old) (faults self.new) result }
@@ -67,7 +67,7 @@ pub trait Disk {
         requires whole { length into.old % 16 ≡ 0 }
         requires within { IsTrue tells → unit + length into.old / 16 ≤ length (file_of file (files self.old)) }
         ensures units { OnOk result (IsTrue tells → units_of into.new ≡ take (length into.old / 16) (drop unit (file_of file (files self.old)))) }
-        ensures untouched { IsTrue tells → Untouched (files self.old) (files self.new) (left_since self.old) (left_since self.new) }
+        ensures untouched { IsTrue tells → IsUntouched (files self.old) (files self.new) (left_since self.old) (left_since self.new) }
         ensures moment { moment self.new ≡ moment self.old }
         ensures reads { (f : File) → RoseBy (bytes_read self.old f) (bytes_for file f (length into.old)) (bytes_read self.new f) }
         ensures cause { HasCause (faults self.old) (faults self.new) result }
@@ -83,7 +83,7 @@ pub trait Disk {
     fn write_at(&mut self, file: File, unit: u64, bytes: &[u8]) -> Result<(), Failed>
         requires fits { FitsAt unit bytes.now }
         ensures written { OnOk result (IsTrue tells
-            → files self.new ≡ with_file file (put unit (units_of bytes.now) (file_of file (files self.old)))
+            → files self.new ≡ with_file file (with_units unit (units_of bytes.now) (file_of file (files self.old)))
             (files self.old)) }
         ensures torn { IsTrue tells → TornFile file unit (units_of bytes.now) (files self.old) (files self.new) }
         ensures images { IsTrue tells → OnlyAfter (TornFile file unit (units_of bytes.now))
@@ -99,14 +99,14 @@ pub trait Disk {
         ensures outcome { outcome self.old (Write file unit bytes.now) (is_err result) self.new }
         ensures follows { follows self.old self.new };
 
-    /// Settles a file: no stop from now on leaves it otherwise than it reads.
+    /// Makes a file durable: no crash from now on leaves it otherwise than it reads.
     ///
     /// # Errors
     ///
     /// `Failed` only where the count of faults rose. All is then as pending as before.
     fn sync(&mut self, file: File) -> Result<(), Failed>
         ensures same { IsTrue tells → files self.new ≡ files self.old }
-        ensures settled { OnOk result (IsTrue tells → (image : Files) → left_since self.new (moment self.new) image
+        ensures durable { OnOk result (IsTrue tells → (image : Files) → left_since self.new (moment self.new) image
             → file_of file image ≡ file_of file (files self.old)) }
         ensures images { IsTrue tells → (image : Files) → left_since self.new (moment self.new) image
             → left_since self.old (moment self.old) image }

@@ -34,7 +34,7 @@ impl MemDisk {
     ghost use Rattle.rpm_outside.specs.MemDisk.{mem_faults, mem_starved, mem_files, mem_read, mem_steps, mem_first, mem_failing, IsNew, SameButFailing};
 
     /// A disk on which nothing was done yet.
-    fn settled(alloc: Global, first: Held, held: Held) -> MemDisk
+    fn durable(alloc: Global, first: Held, held: Held) -> MemDisk
         requires { held_files held ≡ held_files first }
         ensures { IsNew result (held_files first) }
     {
@@ -54,7 +54,7 @@ impl MemDisk {
         }
     }
 
-    /// A disk with these files, settled. Bytes after a file's last whole unit are left out.
+    /// A disk with these files, which are durable. Bytes after a file's last whole unit are left out.
     ///
     /// # Errors
     ///
@@ -64,12 +64,12 @@ impl MemDisk {
     {
         let held = Held::of(alloc, pkg, idx, log)?;
         let first = copy_of(alloc, &held)?;
-        Ok(MemDisk::settled(alloc, first, held))
+        Ok(MemDisk::durable(alloc, first, held))
     }
 
-    /// One of the images that a crash at this moment may leave, as a settled disk. It is made from a copy of the
+    /// One of the images that a crash at this moment may leave, as a durable disk. It is made from a copy of the
     /// files at the last moment before it of which one is kept, and the writes and syncs since then.
-    /// `MemDisk` keeps one at a sync where all files are settled, and as many units were written since
+    /// `MemDisk` keeps one at a sync where all files are durable, and as many units were written since
     /// the last copy as the files have.
     ///
     /// # Errors
@@ -81,7 +81,7 @@ impl MemDisk {
         ensures units { IfOk result (λ disk. IsImage (take moment (mem_steps self.now)) (mem_first self.now) (mem_files disk)) }
         ensures picked { IfOk result (λ disk. mem_files disk ≡ picked_image pick (take moment (mem_steps self.now))
             (mem_first self.now) (mem_first self.now)) }
-        ensures settled { IfOk result (λ disk. IsNew disk (mem_files disk)) }
+        ensures durable { IfOk result (λ disk. IsNew disk (mem_files disk)) }
     {
         let (from, start) = self.copies.start(alloc, &self.first, moment as usize)?;
         let mut image = copy_of(alloc, &start)?;
@@ -89,7 +89,7 @@ impl MemDisk {
         for k in from..moment as usize {
             go_over(alloc, &self.steps[k], &mut now, &mut image, pick)?;
         }
-        Ok(MemDisk::settled(alloc, copy_of(alloc, &image)?, image))
+        Ok(MemDisk::durable(alloc, copy_of(alloc, &image)?, image))
     }
 
     /// The moment: how many writes and syncs were kept.
@@ -248,7 +248,7 @@ impl Disk for MemDisk {
             return Err(Failed);
         };
         self.copies
-            .settle(self.alloc, file, self.steps.len(), &self.held);
+            .note_sync(self.alloc, file, self.steps.len(), &self.held);
         Ok(())
     }
 }

@@ -1,7 +1,7 @@
 //! A sink in memory.
 
 ghost use Rattle.std.specs.Prelude.{◌≡◌, ℕ, ◌<◌, ◌≤◌, ◌-◌, ◌^◌, min, true, Some, None, length, [], IfSome};
-ghost use Rattle.rpm_outside.specs.Prelude.{Begins, begins_refl, begins_trans, FailsWhereFull, Rose, sink_bytes, sink_faults, sink_limit, sink_most, sink_starved};
+ghost use Rattle.rpm_outside.specs.Prelude.{IsPrefix, begins_refl, begins_trans, FailsWhereFull, Rose, sink_bytes, sink_faults, sink_limit, sink_most, sink_starved};
 
 use crate::{Failed, Sink};
 use std::alloc::Global;
@@ -99,7 +99,7 @@ impl Sink for MemSink {
 
     ghost faults = { λ s. s.faults };
 
-    ghost follows = { λ old new. Begins (sink_bytes old) (sink_bytes new) };
+    ghost follows = { λ old new. IsPrefix (sink_bytes old) (sink_bytes new) };
 
     ghost outcome = { FailsWhereFull };
 

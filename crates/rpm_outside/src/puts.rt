@@ -2,7 +2,7 @@
 
 ghost use Rattle.std.specs.Prelude.{◌≡◌, [], drop};
 ghost use Rattle.rpm_outside.specs.Prelude.{begins_refl, begins_trans};
-ghost use Rattle.rpm_outside.specs.Buffered.{all_taken, Flushes, GoesOn, inner};
+ghost use Rattle.rpm_outside.specs.Buffered.{all_taken, Flushes, KeepsHeld, inner};
 ghost use Rattle.rpm_outside.specs.SinkFrame.{Writes};
 
 use crate::{Buffered, Failed, Sink};
@@ -73,7 +73,7 @@ impl<O: Sink + Drop> Sink for Buffered<O> {
 
     ghost faults = { λ b. O.faults (inner b) };
 
-    ghost follows = { GoesOn O.Sink };
+    ghost follows = { KeepsHeld O.Sink };
 
     ghost follows_refl = { λ b. (O.follows_refl (inner b), λ told. begins_refl _) };
 

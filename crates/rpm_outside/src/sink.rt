@@ -1,7 +1,7 @@
 //! Where bytes go.
 
 ghost use Rattle.std.specs.Prelude.{◌≡◌, ℕ, ◌<◌, ◌≤◌, Bool, IsTrue, List, length, take, is_err, IfOk, OnErr};
-ghost use Rattle.rpm_outside.specs.Prelude.{Begins, Gained, HasCause, refl, ◌∙◌};
+ghost use Rattle.rpm_outside.specs.Prelude.{IsPrefix, GainIs, HasCause, refl, ◌∙◌};
 
 use crate::Failed;
 
@@ -31,7 +31,7 @@ pub trait Sink {
     fn write(&mut self, bytes: &[u8]) -> Result<usize, Failed>
         requires { 0 < length bytes.now }
         ensures some { IfOk result (λ n. (0 < n) × (n ≤ length bytes.now)) }
-        ensures taken { IfOk result (λ n. Gained tells (taken self.old) (taken self.new) (take n bytes.now)) }
+        ensures taken { IfOk result (λ n. GainIs tells (taken self.old) (taken self.new) (take n bytes.now)) }
         ensures nothing { OnErr result (IsTrue tells → taken self.new ≡ taken self.old) }
         ensures cause { HasCause (faults self.old) (faults self.new) result }
         ensures outcome { outcome self.old (is_err result) self.new }
@@ -42,7 +42,7 @@ pub trait Sink {
     ghost follows_trans: { (a b c : Self) → follows a b → follows b c → follows a c };
 
     /// What was taken begins with what was taken before.
-    ghost follows_grows: { (a b : Self) → follows a b → IsTrue tells → Begins (taken a) (taken b) };
+    ghost follows_grows: { (a b : Self) → follows a b → IsTrue tells → IsPrefix (taken a) (taken b) };
 }
 
 /// A sink that is lent is a sink. Each call leaves it where it is.

@@ -1,7 +1,7 @@
 //! The writes and syncs of a disk in memory, and the files that they leave.
 
 ghost use Rattle.std.specs.Prelude.{◌≡◌, ◌^◌, ◌+◌, ◌-◌, ◌*◌, ◌/◌, ◌<◌, ◌≤◌, ◌∷◌, ◌++◌, [], ℕ, length, take, drop, replicate, IfOk, OnOk, OnErr};
-ghost use Rattle.rpm_outside.specs.Prelude.{after_step, blank, bytes_of, file_of, held_files, mixed_unit, part_of, picked, picked_step, put, unit_at, units_of, with_file, WroteAny};
+ghost use Rattle.rpm_outside.specs.Prelude.{after_step, blank, bytes_of, file_of, held_files, mixed_unit, part_of, units_of_pick, picked_step, with_units, unit_at, units_of, with_file, WroteAny};
 
 use crate::File;
 use std::alloc::{AllocError, Global};
@@ -60,7 +60,7 @@ impl Held {
     ) -> Result<(), AllocError>
         requires { at < 2 ^ 32 }
         ensures ok { OnOk result (held_files self.new ≡ with_file file
-            (put at units.now (file_of file (held_files self.old))) (held_files self.old)) }
+            (with_units at units.now (file_of file (held_files self.old))) (held_files self.old)) }
         ensures err { OnErr result (held_files self.new ≡ held_files self.old) }
     {
         match file {
@@ -134,7 +134,7 @@ fn write_in(
     units: &[[u8; 16]],
 ) -> Result<(), AllocError>
     requires { at < 2 ^ 32 }
-    ensures ok { OnOk result (file.new.items ≡ put at units.now file.old.items) }
+    ensures ok { OnOk result (file.new.items ≡ with_units at units.now file.old.items) }
     ensures err { OnErr result (file.new.items ≡ file.old.items) }
 {
     lengthen(alloc, file, at + units.len())?;
@@ -229,7 +229,7 @@ fn unit_of(file: &[[u8; 16]], i: usize) -> [u8; 16]
 fn mixed_unit(seed: u64, file: &[[u8; 16]], units: &[[u8; 16]], at: usize, k: usize) -> [u8; 16]
     requires at { at < 2 ^ 32 }
     requires within { k < length units.now }
-    ensures { result ≡ mixed_unit seed file.now (put at units.now file.now) (at + k) }
+    ensures { result ≡ mixed_unit seed file.now (with_units at units.now file.now) (at + k) }
 {
     if (seed >> ((at + k) % 64)) % 2 == 1 {
         units[k]
@@ -247,7 +247,7 @@ fn mixed(
     seed: u64,
 ) -> Result<Vec<[u8; 16]>, AllocError>
     requires { at < 2 ^ 32 }
-    ensures { IfOk result (λ mixed. put at mixed.items file.now ≡ picked (Pick.Mixed seed) at units.now file.now) }
+    ensures { IfOk result (λ mixed. with_units at mixed.items file.now ≡ units_of_pick (Pick.Mixed seed) at units.now file.now) }
 {
     let mut mixed = Vec::new(alloc);
     for k in 0..units.len() {
@@ -257,7 +257,7 @@ fn mixed(
 }
 
 /// Does to a file what a crash leaves of a write.
-#[tactic(auto, unfolding(crate::specs::Picks::picked))]
+#[tactic(auto, unfolding(crate::specs::Picks::units_of_pick))]
 fn write_picked(
     alloc: Global,
     image: &mut Held,
@@ -268,7 +268,7 @@ fn write_picked(
 ) -> Result<(), AllocError>
     requires { at < 2 ^ 32 }
     ensures { OnOk result (held_files image.new ≡ with_file file
-        (picked pick at units.now (file_of file (held_files image.old))) (held_files image.old)) }
+        (units_of_pick pick at units.now (file_of file (held_files image.old))) (held_files image.old)) }
 {
     match pick {
         Pick::Old => Ok(()),

@@ -1,7 +1,7 @@
 -- A blob that is written in three parts.
 use Rattle.std.proofs.Common.{◌≡◌, ℕ, ◌+◌, ◌-◌, ◌*◌, ◌/◌, ◌%◌, ◌≤◌, List, ◌++◌, length, take, drop, sym, ap, ◌∙◌, arith, append_assoc, length-append, take-append-drop}
 use Rattle.std.proofs.lemmas.List.{length-take}
-use Rattle.rpm_pkgdb.proofs.Vocabulary.{adler, blocks_for, framed, head_of, length-cut_up, padding, put, SameOutside, tail_of, Torn, Units, units_of}
+use Rattle.rpm_pkgdb.proofs.Vocabulary.{adler, blocks_for, framed, head_of, length-cut_up, padding, with_units, SameOutside, tail_of, Torn, Units, units_of}
 use Rattle.rpm_pkgdb.proofs.FramingLaws.{length-head_of}
 use Rattle.rpm_pkgdb.proofs.ClearLaws.{torn_outside, outside_then, outside_wider}
 use Rattle.rpm_pkgdb.proofs.PutParts.{put_append, units_of-append}
@@ -41,17 +41,18 @@ module _ (n g : ℕ) (b : List ℕ) (head front last : List ℕ) (is_head : head
       ap (λ (us : Units). us ++ units_of last) (sym (units_of-append head front w)) ∙ sym (units_of-append (head ++ front) last v) ∙ ap units_of all_bytes
 
   -- the three writes are one
-  pub parts_written : (start : ℕ) (F0 F1 F2 F3 : Units) → F1 ≡ put start (units_of head) F0 → F2 ≡ put (start + 1) (units_of front) F1
-      → F3 ≡ put (start + 1 + whole) (units_of last) F2 → F3 ≡ put start (units_of (framed n g b)) F0
+  pub parts_written : (start : ℕ) (F0 F1 F2 F3 : Units) → F1 ≡ with_units start (units_of head) F0 → F2 ≡ with_units (start + 1) (units_of front) F1
+      → F3 ≡ with_units (start + 1 + whole) (units_of last) F2 → F3 ≡ with_units start (units_of (framed n g b)) F0
   parts_written start F0 F1 F2 F3 one two three =
       let H = units_of head in
       let M = units_of front in
       let L = units_of last in
       let at_1 : start + 1 ≡ start + length H = omega (arith, count-head) in
       let at_2 : start + 1 + whole ≡ start + length (H ++ M) = omega (arith, length-append H M, count-head, count-front) in
-      let both : F2 ≡ put start (H ++ M) F0 = two ∙ ap (λ (k : ℕ). put k M F1) at_1 ∙ ap (put (start + length H) M) one ∙ put_append start H M F0 in
-      three ∙ ap (λ (k : ℕ). put k L F2) at_2 ∙ ap (put (start + length (H ++ M)) L) both ∙ put_append start (H ++ M) L F0
-      ∙ ap (λ (us : Units). put start us F0) all_units
+      let both : F2 ≡ with_units start (H ++ M) F0 = two ∙ ap (λ (k : ℕ). with_units k M F1) at_1 ∙ ap (with_units (start + length H) M) one
+      ∙ put_append start H M F0 in
+      three ∙ ap (λ (k : ℕ). with_units k L F2) at_2 ∙ ap (with_units (start + length (H ++ M)) L) both ∙ put_append start (H ++ M) L F0
+      ∙ ap (λ (us : Units). with_units start us F0) all_units
 
   module _ (start : ℕ) (few : size ≤ 68157432) where
     abbrev Within : Units → Units → Type 0

@@ -2,9 +2,9 @@
 use Rattle.std.proofs.Common.{◌≡◌, ℕ, ◌+◌, ◌≤◌, Result, Ok, Err, OnOk, OnErr, IsErr, IsErrAnd, subst, sym, arith}
 use Rattle.std.specs.Prelude.{IsTrue}
 use Rattle.rpm_outside.specs.declared.disk.Disk as disk
-use Rattle.rpm_pkgdb.proofs.Vocabulary.{Failed, Files, images, LeavesOnly, Pkg, Reads, ReadsOr, Rose, Stops, StopsIn, Units, Writes}
-use Rattle.rpm_outside.specs.inner.Changing as shared
-use Rattle.rpm_outside.specs.inner.Looking as reading
+use Rattle.rpm_pkgdb.proofs.Vocabulary.{Failed, Files, images, CrashLeavesOnly, Pkg, ReadsOnly, ReadsOr, Rose, IsTornOnly, CrashLeavesFile, Units, Writes}
+use Rattle.rpm_outside.specs.laws.Changing as shared
+use Rattle.rpm_outside.specs.laws.Looking as reading
 
 -- the answer so far of a run that goes on
 abbrev pub done : Result (Unit {0}) Failed
@@ -48,7 +48,7 @@ module _ {D : Type 0} (d : disk.Ghosts D) where
   writes_failed run = record { changes = run.changes; cause = record { later = run.cause.later; failed = failed_as _ run.cause.failed } }
 
   -- a run that only reads
-  pub writes_reads : {R : Units → Units → Type 0} {most : ℕ} {X E : Type 0} {r : Result X E} {a b : D} → Reads d Pkg most r a b → ((x : Units) → R x x)
+  pub writes_reads : {R : Units → Units → Type 0} {most : ℕ} {X E : Type 0} {r : Result X E} {a b : D} → ReadsOnly d Pkg most r a b → ((x : Units) → R x x)
       → Writes d Pkg R most r a b
   writes_reads run same = record {
     changes = shared.changes_looks d Pkg _ same _ _ _ run.looks;
@@ -64,7 +64,7 @@ module _ {D : Type 0} (d : disk.Ghosts D) where
 
   -- two runs that read
   pub reads_then : ((a b c : D) → d.follows a b → d.follows b c → d.follows a c) → {m n most : ℕ} {X E Y F : Type 0} {r : Result X E} {q : Result Y F}
-      {a b c : D} → Reads d Pkg m r a b → Reads d Pkg n q b c → m + n ≤ most → Reads d Pkg most q a c
+      {a b c : D} → ReadsOnly d Pkg m r a b → ReadsOnly d Pkg n q b c → m + n ≤ most → ReadsOnly d Pkg most q a c
   reads_then trans first second le = record {
     looks =
         reading.looks_then d Pkg trans _ _ _ _ _ _ le first.looks second.looks;
@@ -75,11 +75,11 @@ module _ {D : Type 0} (d : disk.Ghosts D) where
   }
 
   -- a run that goes on
-  pub reads_on : {most : ℕ} {X E : Type 0} {r : Result X E} {a b : D} → Reads d Pkg most r a b → Reads d Pkg most done a b
+  pub reads_on : {most : ℕ} {X E : Type 0} {r : Result X E} {a b : D} → ReadsOnly d Pkg most r a b → ReadsOnly d Pkg most done a b
   reads_on run = record { looks = run.looks; cause = record { later = run.cause.later; failed = tt } }
 
   -- a run that failed, where the answer has several errors
-  pub reads_failed : {m most : ℕ} {X E : Type 0} {e : E} {what : Type 0} {a b : D} → (let r : Result X E = Err e in Reads d Pkg m r a b) → m ≤ most
+  pub reads_failed : {m most : ℕ} {X E : Type 0} {e : E} {what : Type 0} {a b : D} → (let r : Result X E = Err e in ReadsOnly d Pkg m r a b) → m ≤ most
       → ReadsOr d Pkg most what a b
   reads_failed run le = record {
     looks = reading.looks_more d Pkg _ _ _ _ le run.looks;
@@ -88,7 +88,7 @@ module _ {D : Type 0} (d : disk.Ghosts D) where
 
   -- two runs that read, where the answer has several errors
   pub reads_or_then : ((a b c : D) → d.follows a b → d.follows b c → d.follows a c) → {m n most : ℕ} {X E : Type 0} {r : Result X E} {what why : Type 0}
-      {a b c : D} → Reads d Pkg m r a b → ReadsOr d Pkg n why b c → m + n ≤ most → (what → why) → ReadsOr d Pkg most what a c
+      {a b c : D} → ReadsOnly d Pkg m r a b → ReadsOr d Pkg n why b c → m + n ≤ most → (what → why) → ReadsOr d Pkg most what a c
   reads_or_then trans first second le only = record {
     looks =
         reading.looks_then d Pkg trans _ _ _ _ _ _ le first.looks second.looks;
@@ -99,19 +99,19 @@ module _ {D : Type 0} (d : disk.Ghosts D) where
   }
 
 module _ {D : Type 0} (d : disk.Ghosts D) (told : IsTrue d.tells) where
-  -- what stops leave that fall into a run
-  pub stops_while : (P : Units → Type 0) {R : Units → Units → Type 0} {most : ℕ} {X E : Type 0} {r : Result X E} {a b : D} → Writes d Pkg R most r a b
-      → ((from image : Files) → images d a from → R from.pkg image.pkg → P image.pkg) → StopsIn d a b P
-  stops_while P run = shared.stops_from d Pkg told _ P _ _ _ run.changes
+  -- what crashes leave that fall into a run
+  pub crashes_while : (P : Units → Type 0) {R : Units → Units → Type 0} {most : ℕ} {X E : Type 0} {r : Result X E} {a b : D} → Writes d Pkg R most r a b
+      → ((from image : Files) → images d a from → R from.pkg image.pkg → P image.pkg) → CrashLeavesFile d a b P
+  crashes_while P run = shared.crashes_from d Pkg told _ P _ _ _ run.changes
 
   -- and into two runs, one after the other
-  pub stops_next : (P : Units → Type 0) {R : Units → Units → Type 0} {most : ℕ} {X E : Type 0} {r : Result X E} {a b c : D} → Writes d Pkg R most r a b
-      → StopsIn d a b P → StopsIn d b c P → StopsIn d a c P
-  stops_next P run = shared.stops_then d Pkg told _ P _ _ _ _ run.changes
+  pub crashes_next : (P : Units → Type 0) {R : Units → Units → Type 0} {most : ℕ} {X E : Type 0} {r : Result X E} {a b c : D} → Writes d Pkg R most r a b
+      → CrashLeavesFile d a b P → CrashLeavesFile d b c P → CrashLeavesFile d a c P
+  crashes_next P run = shared.crashes_then d Pkg told _ P _ _ _ _ run.changes
 
-pub stops_weaker : {D : Type 0} (g : disk.Ghosts D) (P Q : Units → Type 0) (a b : D) → ((image : Units) → P image → Q image)
-    → LeavesOnly g a b (Stops Pkg P (g.left_since a (g.moment a))) → LeavesOnly g a b (Stops Pkg Q (g.left_since a (g.moment a)))
-stops_weaker g P Q a b weaker = shared.stops_weaker g Pkg P Q a b weaker
+pub crashes_weaker : {D : Type 0} (g : disk.Ghosts D) (P Q : Units → Type 0) (a b : D) → ((image : Units) → P image → Q image)
+    → CrashLeavesOnly g a b (IsTornOnly Pkg P (g.left_since a (g.moment a))) → CrashLeavesOnly g a b (IsTornOnly Pkg Q (g.left_since a (g.moment a)))
+crashes_weaker g P Q a b weaker = shared.crashes_weaker g Pkg P Q a b weaker
 
 -- what holds anyhow holds on Ok
 pub on_ok : {T E X : Type 0} (r : Result T E) → X → OnOk r X

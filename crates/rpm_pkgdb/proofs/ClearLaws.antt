@@ -1,7 +1,7 @@
 -- What stays of a store where units are written.
 use Rattle.std.proofs.Common.{◌≡◌, ◌≢◌, inl, inr, ℕ, ◌+◌, ◌*◌, ◌<◌, ◌≤◌, List, [], ◌∷◌, length, true, refl, sym, ap, ◌∙◌, subst, arith, set, get_or-set_same, get_or-set_other, length-set}
 use Rattle.std.proofs.lemmas.Bool.{cases_lt, cases_eq}
-use Rattle.rpm_pkgdb.proofs.Vocabulary.{AreApart, AreSound, free, is_used, IsClear, IsHeadUnit, IsLawful, IsMade, IsPlaced, IsSlotUnit, length-put, put}
+use Rattle.rpm_pkgdb.proofs.Vocabulary.{AreSlotsApart, AreSound, free, is_used, IsClear, IsHeadUnit, IsLawfulCount, IsMade, IsPlaced, IsSlotUnit, length-put, with_units}
 use Rattle.rpm_pkgdb.proofs.Vocabulary.{put_after, put_before, put_inside, same_units, SameBlocks, SameOutside, Slot, slot_at, Store, Torn, unit_at, Units}
 use Rattle.rpm_pkgdb.proofs.Vocabulary.{word}
 use Rattle.rpm_pkgdb.proofs.Pairwise.{apart_swapped}
@@ -50,25 +50,25 @@ torn_one at unit a b inside torn =
         | inl here ↦ ap (unit_at b) here ∙ old ∙ ap (unit_at a) (sym here)
         | inr other ↦ elsewhere same i other
       ]))
-      | inr new ↦ inr (same_units b (put at (unit ∷ []) a) (long ∙ omega (arith, length-put at (unit ∷ []) a)) (λ i. elim (cases_eq i at) [
-        | inl here ↦ ap (unit_at b) here ∙ new ∙ ap (unit_at (put at (unit ∷ []) a)) (sym here)
-        | inr other ↦ elsewhere same i other ∙ sym (elsewhere (torn_outside at (unit ∷ []) a (put at (unit ∷ []) a) (whole at unit a)) i other)
+      | inr new ↦ inr (same_units b (with_units at (unit ∷ []) a) (long ∙ omega (arith, length-put at (unit ∷ []) a)) (λ i. elim (cases_eq i at) [
+        | inl here ↦ ap (unit_at b) here ∙ new ∙ ap (unit_at (with_units at (unit ∷ []) a)) (sym here)
+        | inr other ↦ elsewhere same i other ∙ sym (elsewhere (torn_outside at (unit ∷ []) a (with_units at (unit ∷ []) a) (whole at unit a)) i other)
       ]))
     ]
   where
     elsewhere : {x : Units} → SameOutside at 1 a x → (i : ℕ) → i ≢ at → unit_at x i ≡ unit_at a i
     elsewhere same i other = elim (cases_lt i at) [ inl lt ↦ same.below i lt | inr ge ↦ same.above i (omega arith) ]
 
-    whole : (at : ℕ) (unit : List ℕ) (a : Units) → Torn at (unit ∷ []) a (put at (unit ∷ []) a)
+    whole : (at : ℕ) (unit : List ℕ) (a : Units) → Torn at (unit ∷ []) a (with_units at (unit ∷ []) a)
     whole at unit a = record { each = λ i. inr refl; no_shorter = omega (arith, length-put at (unit ∷ []) a); no_longer = omega arith }
 
-pub put_here : (at : ℕ) (unit : List ℕ) (a : Units) → unit_at (put at (unit ∷ []) a) at ≡ unit
-put_here at unit a = ap (unit_at (put at (unit ∷ []) a)) (omega arith) ∙ put_inside at (unit ∷ []) a 0 (omega arith)
+pub put_here : (at : ℕ) (unit : List ℕ) (a : Units) → unit_at (with_units at (unit ∷ []) a) at ≡ unit
+put_here at unit a = ap (unit_at (with_units at (unit ∷ []) a)) (omega arith) ∙ put_inside at (unit ∷ []) a 0 (omega arith)
 
-pub put_elsewhere : (at : ℕ) (unit : List ℕ) (a : Units) (i : ℕ) → i ≢ at → unit_at (put at (unit ∷ []) a) i ≡ unit_at a i
+pub put_elsewhere : (at : ℕ) (unit : List ℕ) (a : Units) (i : ℕ) → i ≢ at → unit_at (with_units at (unit ∷ []) a) i ≡ unit_at a i
 put_elsewhere at unit a i other = elim (cases_lt i at) [ inl lt ↦ put_before at (unit ∷ []) a i lt | inr ge ↦ put_after at (unit ∷ []) a i (omega arith) ]
 
-pub put_length : (at : ℕ) (unit : List ℕ) (a : Units) → at < length a → length (put at (unit ∷ []) a) ≡ length a
+pub put_length : (at : ℕ) (unit : List ℕ) (a : Units) → at < length a → length (with_units at (unit ∷ []) a) ≡ length a
 put_length at unit a inside = omega (arith, length-put at (unit ∷ []) a)
 
 -- ---- sound slots
@@ -98,8 +98,8 @@ module _ (pages units : ℕ) (slots : List Slot) (sound : AreSound pages units s
         | inl here ↦ absurd (not_used j here used_j)
         | inr other_j ↦
             (let was = sound.apart i j differ (ap is_used (sym (set_other free i other_i)) ∙ used_i) (ap is_used (sym (set_other free j other_j)) ∙ used_j) in
-            subst (λ (t : Slot). AreApart t (slot_at (set slots k free) j)) (sym (set_other free i other_i))
-            (subst (AreApart (slot_at slots i)) (sym (set_other free j other_j)) was))
+            subst (λ (t : Slot). AreSlotsApart t (slot_at (set slots k free) j)) (sym (set_other free i other_i))
+            (subst (AreSlotsApart (slot_at slots i)) (sym (set_other free j other_j)) was))
       ]
     ];
   }
@@ -109,7 +109,7 @@ module _ (pages units : ℕ) (slots : List Slot) (sound : AreSound pages units s
           (let e : slot_at (set slots k free) j ≡ free = ap (slot_at (set slots k free)) here
           ∙ set_here free in let f : is_used (slot_at (set slots k free) j) ≡ is_used free = ap is_used e in cc)
 
-  pub put_sound : (s : Slot) → IsPlaced pages units s → ((j : ℕ) → j ≢ k → is_used (slot_at slots j) ≡ true → AreApart s (slot_at slots j))
+  pub put_sound : (s : Slot) → IsPlaced pages units s → ((j : ℕ) → j ≢ k → is_used (slot_at slots j) ≡ true → AreSlotsApart s (slot_at slots j))
       → AreSound pages units (set slots k s)
   put_sound s placed apart = record {
     placed = λ j used. elim (cases_eq j k) [
@@ -120,18 +120,18 @@ module _ (pages units : ℕ) (slots : List Slot) (sound : AreSound pages units s
       | inl here_i ↦ elim (cases_eq j k) [
         | inl here_j ↦ absurd (differ (here_i ∙ sym here_j))
         | inr other_j ↦
-            subst (λ (t : Slot). AreApart t (slot_at (set slots k s) j)) (sym (ap (slot_at (set slots k s)) here_i ∙ set_here s))
-            (subst (AreApart s) (sym (set_other s j other_j)) (apart j other_j (ap is_used (sym (set_other s j other_j)) ∙ used_j)))
+            subst (λ (t : Slot). AreSlotsApart t (slot_at (set slots k s) j)) (sym (ap (slot_at (set slots k s)) here_i ∙ set_here s))
+            (subst (AreSlotsApart s) (sym (set_other s j other_j)) (apart j other_j (ap is_used (sym (set_other s j other_j)) ∙ used_j)))
       ]
       | inr other_i ↦ elim (cases_eq j k) [
         | inl here_j ↦
             apart_swapped (slot_at (set slots k s) j) (slot_at (set slots k s) i)
-            (subst (λ (t : Slot). AreApart t (slot_at (set slots k s) i)) (sym (ap (slot_at (set slots k s)) here_j ∙ set_here s))
-            (subst (AreApart s) (sym (set_other s i other_i)) (apart i other_i (ap is_used (sym (set_other s i other_i)) ∙ used_i))))
+            (subst (λ (t : Slot). AreSlotsApart t (slot_at (set slots k s) i)) (sym (ap (slot_at (set slots k s)) here_j ∙ set_here s))
+            (subst (AreSlotsApart s) (sym (set_other s i other_i)) (apart i other_i (ap is_used (sym (set_other s i other_i)) ∙ used_i))))
         | inr other_j ↦
             (let was = sound.apart i j differ (ap is_used (sym (set_other s i other_i)) ∙ used_i) (ap is_used (sym (set_other s j other_j)) ∙ used_j) in
-            subst (λ (t : Slot). AreApart t (slot_at (set slots k s) j)) (sym (set_other s i other_i))
-            (subst (AreApart (slot_at slots i)) (sym (set_other s j other_j)) was))
+            subst (λ (t : Slot). AreSlotsApart t (slot_at (set slots k s) j)) (sym (set_other s i other_i))
+            (subst (AreSlotsApart (slot_at slots i)) (sym (set_other s j other_j)) was))
       ]
     ];
   }
@@ -156,13 +156,13 @@ module _ (file : Units) (st : Store) (m : IsMade file st) where
 
   -- a slot is written
   pub set_made : (k : ℕ) (unit : List ℕ) (s : Slot) → k < length st.slots → IsSlotUnit unit s → AreSound st.pages (length file) (set st.slots k s)
-      → IsMade (put (2 + k) (unit ∷ []) file) (record st { slots = set st.slots k s })
+      → IsMade (with_units (2 + k) (unit ∷ []) file) (record st { slots = set st.slots k s })
   set_made k unit s below is sound =
-      let next = put (2 + k) (unit ∷ []) file in
+      let next = with_units (2 + k) (unit ∷ []) file in
       let inside : 2 + k < length file = omega (arith, m.count, m.lawful.inside) in
       let long = put_length (2 + k) unit file inside in
       record {
-        lawful = subst (λ (n : ℕ). IsLawful n st.pages) (sym long) m.lawful;
+        lawful = subst (λ (n : ℕ). IsLawfulCount n st.pages) (sym long) m.lawful;
         head = subst (λ (u : List ℕ). IsHeadUnit u st.generation st.pages) (sym (put_elsewhere (2 + k) unit file 0 (omega arith))) m.head;
         field = ap (word 0) (put_elsewhere (2 + k) unit file 1 (omega arith)) ∙ m.field;
         count = length-set st.slots k s ∙ m.count;
@@ -181,12 +181,12 @@ module _ (file : Units) (st : Store) (m : IsMade file st) where
 
   -- unit 0 is written
   pub head_made : (unit : List ℕ) (generation : ℕ) → IsHeadUnit unit generation st.pages
-      → IsMade (put 0 (unit ∷ []) file) (record st { generation = generation })
+      → IsMade (with_units 0 (unit ∷ []) file) (record st { generation = generation })
   head_made unit generation is =
       let inside : 0 < length file = omega (arith, m.lawful.some, m.lawful.inside) in
       let long = put_length 0 unit file inside in
       record {
-        lawful = subst (λ (n : ℕ). IsLawful n st.pages) (sym long) m.lawful;
+        lawful = subst (λ (n : ℕ). IsLawfulCount n st.pages) (sym long) m.lawful;
         head = subst (λ (u : List ℕ). IsHeadUnit u generation st.pages) (sym (put_here 0 unit file)) is;
         field = ap (word 0) (put_elsewhere 0 unit file 1 (omega arith)) ∙ m.field;
         count = m.count;
@@ -196,5 +196,5 @@ module _ (file : Units) (st : Store) (m : IsMade file st) where
 
   -- a unit of the slot pages is written
   pub page_blocks : (at : ℕ) (unit : List ℕ) (slots : List Slot) → at < 256 * st.pages
-      → ((k : ℕ) → is_used (slot_at slots k) ≡ true → 256 * st.pages ≤ (slot_at slots k).offset) → SameBlocks slots file (put at (unit ∷ []) file)
+      → ((k : ℕ) → is_used (slot_at slots k) ≡ true → 256 * st.pages ≤ (slot_at slots k).offset) → SameBlocks slots file (with_units at (unit ∷ []) file)
   page_blocks at unit slots low behind k i used from to = put_elsewhere at unit file i (omega (arith, behind k used))

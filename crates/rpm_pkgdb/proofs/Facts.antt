@@ -1,6 +1,6 @@
 -- What the tests on slots say, and where a test holds in a list.
 use Rattle.std.proofs.Common.{◌≡◌, ℕ, ◌<◌, List, length, get_or, Bool, true, false, refl, ap, ◌∙◌, inl, inr, ◌⊎◌, arith}
-use Rattle.rpm_pkgdb.proofs.Vocabulary.{end_of, has_number, is_used, list_any, meets, Slot}
+use Rattle.rpm_pkgdb.proofs.Vocabulary.{end_of, has_number, is_used, list_any, slots_meet, Slot}
 use Rattle.std.proofs.lemmas.List.{get_or_default}
 use Rattle.std.proofs.lemmas.List.Folds.{Any-from_list_any, list_any_at}
 use Rattle.std.proofs.lemmas.Bool.Decides.{nat_tests}
@@ -43,10 +43,10 @@ pub record Meet (s t : Slot) : Type 0 where
   pub left : s.offset < end_of t
   pub right : t.offset < end_of s
 
-pub meet_facts : (s t : Slot) → meets s t ≡ true → Meet s t
+pub meet_facts : (s t : Slot) → slots_meet s t ≡ true → Meet s t
 meet_facts s t h = record { used = grind (arith, nat_tests); left = grind (arith, nat_tests); right = grind (arith, nat_tests) }
 
-pub meet_from : (s t : Slot) → is_used t ≡ true → s.offset < end_of t → t.offset < end_of s → meets s t ≡ true
+pub meet_from : (s t : Slot) → is_used t ≡ true → s.offset < end_of t → t.offset < end_of s → slots_meet s t ≡ true
 meet_from s t used left right = grind (arith, nat_tests)
 
 pub no_place : {X : Type 0} (p : X → Bool) (xs : List X) (d : X) → (Place p xs d → ⊥) → list_any p xs ≡ false

@@ -1,7 +1,7 @@
 -- The first fit as a function is the least block at which so many fit.
 use Rattle.std.proofs.Common.{◌≡◌, inl, inr, ℕ, zero, suc, ◌+◌, ◌-◌, ◌^◌, ◌<◌, ◌≤◌, List, [], ◌∷◌, length, map, min, true, false, nat_le, Option, Some, None, MatchOption, refl, sym, ap, ◌∙◌, arith}
 use Rattle.std.specs.Prelude.{Contains}
-use Rattle.rpm_pkgdb.proofs.Vocabulary.{end_of, filter, first_fit, Fits, fits, FitsNowhere, free, IsLeast, list_any, meets, reduce, Slot, slot_at}
+use Rattle.rpm_pkgdb.proofs.Vocabulary.{end_of, filter, first_fit, FitsSlots, fits, FitsNowhere, free, IsLeast, list_any, slots_meet, reduce, Slot, slot_at}
 use Rattle.std.proofs.lemmas.Bool.{cases_lt}
 use Rattle.std.proofs.lemmas.Bool.Decides.{nat_tests}
 use Rattle.rpm_pkgdb.proofs.Facts.{cases_Bool, some_place, no_place, none_at, meet_facts, meet_from}
@@ -20,17 +20,17 @@ module _ (slots : List Slot) (count : ℕ) where
   abbrev blocks : ℕ → Slot
   blocks start = record { number = 0; offset = start; count = count }
 
-  fits_true : (start : ℕ) → Fits slots count start → fits slots count start ≡ true
+  fits_true : (start : ℕ) → FitsSlots slots count start → fits slots count start ≡ true
   fits_true start f =
-      let none : list_any (meets (blocks start)) slots ≡ false = no_place (meets (blocks start)) slots free (λ p.
+      let none : list_any (slots_meet (blocks start)) slots ≡ false = no_place (slots_meet (blocks start)) slots free (λ p.
       let m = meet_facts (blocks start) (slot_at slots p.at) p.holds in
       elim (f.apart p.at m.used) [ inl below ↦ omega (arith, below, m.right) | inr above ↦ omega (arith, above, m.left) ]) in
       let ends = f.ends in
       rw none (grind (arith, nat_tests))
 
-  fits_from : (start : ℕ) → fits slots count start ≡ true → Fits slots count start
+  fits_from : (start : ℕ) → fits slots count start ≡ true → FitsSlots slots count start
   fits_from start pass =
-      let none : list_any (meets (blocks start)) slots ≡ false = elim (cases_Bool (list_any (meets (blocks start)) slots)) [
+      let none : list_any (slots_meet (blocks start)) slots ≡ false = elim (cases_Bool (list_any (slots_meet (blocks start)) slots)) [
         | inl some ↦ absurd (let e = rw some at pass in grind (arith, nat_tests))
         | inr none ↦ none
       ] in
@@ -38,7 +38,7 @@ module _ (slots : List Slot) (count : ℕ) where
         ends = (let e = rw none at pass in grind (arith, nat_tests));
         apart = λ k used.
             let t = slot_at slots k in
-            let apart = none_at (meets (blocks start)) slots k free none (used_below slots k used) in
+            let apart = none_at (slots_meet (blocks start)) slots k free none (used_below slots k used) in
             elim (cases_lt start (end_of t)) [
               | inr above ↦ inr above
               | inl under ↦ elim (cases_lt t.offset (start + count)) [
@@ -59,13 +59,13 @@ module _ (slots : List Slot) (count : ℕ) where
       le : at ≤ block
 
     -- a block after one where they don't fit is the end of a slot's blocks
-    at_end : (before block : ℕ) → block ≡ before + 1 → from ≤ before → Fits slots count block → fits slots count before ≡ false → Below block
+    at_end : (before block : ℕ) → block ≡ before + 1 → from ≤ before → FitsSlots slots count block → fits slots count before ≡ false → Below block
     at_end before block next far f fails =
-        let some : list_any (meets (blocks before)) slots ≡ true = elim (cases_Bool (list_any (meets (blocks before)) slots)) [
+        let some : list_any (slots_meet (blocks before)) slots ≡ true = elim (cases_Bool (list_any (slots_meet (blocks before)) slots)) [
           | inl some ↦ some
           | inr none ↦ absurd (let ends : before + count ≤ 2 ^ 28 = omega (arith, f.ends, next) in let e = rw none at fails in grind (arith, nat_tests))
         ] in
-        let p = some_place (meets (blocks before)) slots free some in
+        let p = some_place (slots_meet (blocks before)) slots free some in
         let t = slot_at slots p.at in
         let m = meet_facts (blocks before) t p.holds in
         let is : end_of t ≡ block = elim (f.apart p.at m.used) [
@@ -81,7 +81,7 @@ module _ (slots : List Slot) (count : ℕ) where
           le = omega (arith, is);
         }
 
-    some_below : (e block : ℕ) → block ≡ from + e → Fits slots count block → Below block
+    some_below : (e block : ℕ) → block ≡ from + e → FitsSlots slots count block → Below block
     some_below zero block is f =
         let here : from ≡ block = omega arith in
         record { at = from; there = (0, omega arith, refl); fits_there = ap (fits slots count) here ∙ fits_true block f; le = omega arith }

@@ -1,7 +1,7 @@
 -- A blob that is written is read back.
 use Rattle.std.proofs.Common.{◌≡◌, ℕ, suc, None, if◌then◌else◌, ◌+◌, ◌-◌, ◌*◌, ◌/◌, ◌^◌, ◌<◌, ◌≤◌, List, ◌∷◌, ◌++◌, length, take, drop, true, Some, refl, sym, ap, ◌∙◌, arith, append_assoc, length-append, length-drop, codes}
-use Rattle.rpm_pkgdb.proofs.Vocabulary.{adler, begins, blank, blob_in, blocks_at, blocks_for, bytes_of, bytes_of-cut_up, bytes_of_word, cut_up, Frame}
-use Rattle.rpm_pkgdb.proofs.Vocabulary.{frame_of, framed, from_le_bytes, head_of, Holds, is_framed, is_head, is_tail, length-cut_up, padding, Slot, summed}
+use Rattle.rpm_pkgdb.proofs.Vocabulary.{adler, begins_with_word, blank, blob_in, blocks_at, blocks_for, bytes_of, bytes_of-cut_up, bytes_of_word, cut_up, Frame}
+use Rattle.rpm_pkgdb.proofs.Vocabulary.{frame_of, framed, from_le_bytes, head_of, HasUnits, is_framed, is_head, is_tail, length-cut_up, padding, Slot, summed_bytes}
 use Rattle.rpm_pkgdb.proofs.Vocabulary.{tail, tail_of, unit_at, Units, units_of, w32}
 use Rattle.std.proofs.lemmas.Nat.{from_le_bytes-to_le_bytes_4}
 use Rattle.std.proofs.lemmas.List.{take-append-le, take_all, drop-append-le, drop_all, length-replicate, length-take, same_lists, get_or-take, get_or-drop, get_or_default}
@@ -17,7 +17,7 @@ unfolding tail_of bytes_of_word
 length-tail_of sum size = refl
 
 module _ (n g size : ℕ) (fits_n : n < 2 ^ 32) (fits_g : g < 2 ^ 32) (fits_size : size < 2 ^ 32) where
-  pub head-magic : begins (codes "BlbS") (head_of n g size) ≡ true
+  pub head-magic : begins_with_word (codes "BlbS") (head_of n g size) ≡ true
   unfolding head_of word bytes_of_word
   head-magic = refl
 
@@ -40,7 +40,7 @@ module _ (sum size : ℕ) (fits_size : size < 2 ^ 32) where
 
 -- ---- units that stand in a file
 
-pub held_part : (file : Units) (at : ℕ) (us : Units) (j : ℕ) → Holds file at us → j ≤ length us → take (length us - j) (drop (at + j) file) ≡ drop j us
+pub held_part : (file : Units) (at : ℕ) (us : Units) (j : ℕ) → HasUnits file at us → j ≤ length us → take (length us - j) (drop (at + j) file) ≡ drop j us
 held_part file at us j holds le =
     let a : length (take (length us - j) (drop (at + j) file)) ≡ length us - j =
     omega (arith, holds.within, length-take (length us - j) (drop (at + j) file), length-drop (at + j) file) in
@@ -65,19 +65,19 @@ module _ (n g : ℕ) (b : List ℕ) where
   all = framed n g b
 
   abbrev pub rest : List ℕ
-  rest = (b ++ padding size) ++ tail_of (adler (summed n g b)) size
+  rest = (b ++ padding size) ++ tail_of (adler (summed_bytes n g b)) size
 
   pub length-rest : length rest ≡ 16 * (blocks_for size - 1)
   length-rest = omega (
     arith,
-    length-append (b ++ padding size) (tail_of (adler (summed n g b)) size),
+    length-append (b ++ padding size) (tail_of (adler (summed_bytes n g b)) size),
     length-append b (padding size),
     length-replicate {A = ℕ} (16 * blocks_for size - (28 + size)) 0,
-    length-tail_of (adler (summed n g b)) size,
+    length-tail_of (adler (summed_bytes n g b)) size,
   )
 
   parts : all ≡ head_of n g size ++ rest
-  parts = append_assoc (head_of n g size) (b ++ padding size) (tail_of (adler (summed n g b)) size)
+  parts = append_assoc (head_of n g size) (b ++ padding size) (tail_of (adler (summed_bytes n g b)) size)
 
   pub length-framed : length all ≡ 16 * blocks_for size
   length-framed = ap length parts ∙ omega (arith, length-append (head_of n g size) rest, length-head_of n g size, length-rest)
@@ -101,17 +101,18 @@ module _ (n g : ℕ) (b : List ℕ) where
       ap (λ (k : ℕ). cut_up k all) e ∙ ap (λ (u : List ℕ). u ∷ cut_up (blocks_for size - 1) (drop 16 all)) first_unit
       ∙ ap (λ (bs : List ℕ). head_of n g size ∷ cut_up (blocks_for size - 1) bs) other_bytes
 
-  the_tail : tail rest ≡ tail_of (adler (summed n g b)) size
+  the_tail : tail rest ≡ tail_of (adler (summed_bytes n g b)) size
   the_tail =
-      let t = tail_of (adler (summed n g b)) size in
-      let e : length rest - 12 ≡ length (b ++ padding size) = omega (arith, length-append (b ++ padding size) t, length-tail_of (adler (summed n g b)) size) in
+      let t = tail_of (adler (summed_bytes n g b)) size in
+      let e : length rest - 12 ≡ length (b ++ padding size) = omega
+      (arith, length-append (b ++ padding size) t, length-tail_of (adler (summed_bytes n g b)) size) in
       ap (λ (k : ℕ). drop k rest) e
       ∙ drop-append-le (length (b ++ padding size)) (b ++ padding size) t (omega arith)
       ∙ ap (λ (bs : List ℕ). bs ++ t) (drop_all (length (b ++ padding size)) (b ++ padding size) (omega arith))
 
   the_blob : take size rest ≡ b
   the_blob =
-      take-append-le size (b ++ padding size) (tail_of (adler (summed n g b)) size) (omega (arith, length-append b (padding size)))
+      take-append-le size (b ++ padding size) (tail_of (adler (summed_bytes n g b)) size) (omega (arith, length-append b (padding size)))
       ∙ take-append-le size b (padding size) (omega arith) ∙ take_all size b (omega arith)
 
   abbrev pub frame : Frame
@@ -130,8 +131,8 @@ module _ (n g : ℕ) (b : List ℕ) where
     unfolding is_tail
     right_tail =
         let t = the_tail in
-        let i : word 1 (tail rest) ≡ size = ap (word 1) t ∙ tail-size (adler (summed n g b)) size (omega arith) in
-        let m : word 2 (tail rest) ≡ from_le_bytes w32 (codes "BlbE") = ap (word 2) t ∙ tail-magic (adler (summed n g b)) size (omega arith) in
+        let i : word 1 (tail rest) ≡ size = ap (word 1) t ∙ tail-size (adler (summed_bytes n g b)) size (omega arith) in
+        let m : word 2 (tail rest) ≡ from_le_bytes w32 (codes "BlbE") = ap (word 2) t ∙ tail-magic (adler (summed_bytes n g b)) size (omega arith) in
         grind (arith, nat_tests)
 
     framed_right : is_framed n (blocks_for size) frame ≡ true
@@ -146,7 +147,7 @@ module _ (n g : ℕ) (b : List ℕ) where
     blob_is = ap (λ (k : ℕ). take k rest) (head-size n g size fits_n fits_g (omega arith)) ∙ the_blob
 
     -- where the units of a blob stand, it is read
-    pub framed_frame : (file : Units) (s : Slot) → s.count ≡ blocks_for size → Holds file s.offset (units_of all) → frame_of n s file ≡ Some frame
+    pub framed_frame : (file : Units) (s : Slot) → s.count ≡ blocks_for size → HasUnits file s.offset (units_of all) → frame_of n s file ≡ Some frame
     framed_frame file s count holds =
         let us = units_of all in
         let long : length us ≡ blocks_for size = count-framed in

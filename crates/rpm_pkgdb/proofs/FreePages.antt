@@ -1,7 +1,7 @@
 -- Free slots that are written.
 use Rattle.std.proofs.Common.{◌≡◌, ℕ, ◌+◌, ◌-◌, ◌*◌, ◌/◌, ◌<◌, ◌≤◌, List, length, take, drop, replicate, sym, ap, ◌∙◌, subst, arith, length-drop}
 use Rattle.std.proofs.lemmas.List.{same_lists, get_or-take, get_or-drop, get_or-replicate, length-take}
-use Rattle.rpm_pkgdb.proofs.Vocabulary.{blank, free, IsSlotUnit, length-cut_up, put, put_inside, unit_at, unit_at-cut_up, Units, units_of}
+use Rattle.rpm_pkgdb.proofs.Vocabulary.{blank, free, IsSlotUnit, length-cut_up, with_units, put_inside, unit_at, unit_at-cut_up, Units, units_of}
 
 module _ (page : List ℕ) (count : ℕ) (long : length page ≡ 4096) (few : count ≤ 256) where
   abbrev front : List ℕ
@@ -27,11 +27,11 @@ module _ (page : List ℕ) (count : ℕ) (long : length page ≡ 4096) (few : co
       unit_at-cut_up (length front / 16) front k (omega (arith, front_long)) ∙ same_unit k below ∙ sym (unit_at-cut_up (length page / 16) page k (omega arith))
 
   pub slots_written : (unit : List ℕ) → IsSlotUnit unit free → units_of page ≡ replicate 256 unit → (at : ℕ) (old new : Units)
-      → new ≡ put at (units_of front) old → (i : ℕ) → at ≤ i → i < at + count → IsSlotUnit (unit_at new i) free
+      → new ≡ with_units at (units_of front) old → (i : ℕ) → at ≤ i → i < at + count → IsSlotUnit (unit_at new i) free
   slots_written unit is units at old new written i low high =
       let k = i - at in
       let e : unit_at new i ≡ unit =
-      ap (λ (u : Units). unit_at u i) written ∙ ap (unit_at (put at (units_of front) old)) (omega arith)
+      ap (λ (u : Units). unit_at u i) written ∙ ap (unit_at (with_units at (units_of front) old)) (omega arith)
       ∙ put_inside at (units_of front) old k (omega (arith, front_count)) ∙ front_unit k (omega arith)
       ∙ ap (λ (u : Units). unit_at u k) units ∙ get_or-replicate 256 k unit blank (omega arith) in
       subst (λ (u : List ℕ). IsSlotUnit u free) (sym e) is

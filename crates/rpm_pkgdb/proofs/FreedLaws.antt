@@ -1,7 +1,7 @@
 -- Blocks that become zeros, and stay so.
 use Rattle.std.proofs.Common.{◌≡◌, ◌⊎◌, inl, inr, ℕ, zero, suc, ◌+◌, ◌*◌, ◌<◌, ◌≤◌, List, [], ◌∷◌, ◌++◌, length, replicate, true, Option, Some, None, refl, sym, ap, ◌∙◌, subst, arith, set}
 use Rattle.std.proofs.lemmas.Bool.{cases_eq, cases_lt, cases_Bool}
-use Rattle.rpm_pkgdb.proofs.Vocabulary.{AreFreed, blank, BlobPut, end_of, FieldPut, free, HasBlock, is_used, KeepsBlank, Move, moved, put, put_after}
+use Rattle.rpm_pkgdb.proofs.Vocabulary.{AreFreed, blank, BlobPut, end_of, FieldPut, free, HasBlock, is_used, KeepsBlank, Move, moved_slot, with_units, put_after}
 use Rattle.rpm_pkgdb.proofs.Vocabulary.{put_before, SameOutside, Slot, slot_at, unit_at, Units}
 use Rattle.rpm_pkgdb.proofs.ClearLaws.{put_elsewhere}
 use Rattle.rpm_pkgdb.proofs.GrowLaws.{at_front}
@@ -19,7 +19,7 @@ zeros_blank end at n t m a b same zeros i low aside was = elim (cases_lt i at) [
   | inr from ↦ elim (cases_lt i (at + n)) [ inl inside ↦ zeros i from inside | inr above ↦ same.above i above ∙ was ]
 ]
 
-pub put_blank : (at : ℕ) (unit : List ℕ) (end t m : ℕ) (a b : Units) → at < end → b ≡ put at (unit ∷ []) a → KeepsBlank end t m a b
+pub put_blank : (at : ℕ) (unit : List ℕ) (end t m : ℕ) (a b : Units) → at < end → b ≡ with_units at (unit ∷ []) a → KeepsBlank end t m a b
 put_blank at unit end t m a b before written i low aside was =
     ap (λ (u : Units). unit_at u i) written ∙ put_elsewhere at unit a i (omega arith) ∙ was
 
@@ -46,7 +46,7 @@ blob_aside None units at a b none low was =
 blob_aside (Some next) units at a b none low was = absurd (let e : Some next ≡ None = none in cc)
 
 -- blocks are copied, their slot is written, and the old ones become zeros
-pub moved_blank : (place to count at n : ℕ) (unit : List ℕ) (a b c d : Units) → SameOutside to count a b → c ≡ put (2 + place) (unit ∷ []) b
+pub moved_blank : (place to count at n : ℕ) (unit : List ℕ) (a b c d : Units) → SameOutside to count a b → c ≡ with_units (2 + place) (unit ∷ []) b
     → SameOutside at n c d → ((i : ℕ) → at ≤ i → i < at + n → unit_at d i ≡ blank) → KeepsBlank (place + 3) to count a d
 moved_blank place to count at n unit a b c d copied written changed zeros =
     let end = place + 3 in
@@ -56,7 +56,7 @@ moved_blank place to count at n unit a b c d copied written changed zeros =
 
 -- a blob and perhaps the number field are written, its slot, and the blocks that it replaces become zeros
 pub put_blank_all : (field : Option ℕ) (units : Units) (place start n at m : ℕ) (unit : List ℕ) (a b c d : Units) → length units ≡ n
-    → BlobPut start units field a b → c ≡ put (2 + place) (unit ∷ []) b → SameOutside at m c d
+    → BlobPut start units field a b → c ≡ with_units (2 + place) (unit ∷ []) b → SameOutside at m c d
     → ((i : ℕ) → at ≤ i → i < at + m → unit_at d i ≡ blank) → KeepsBlank (place + 3) start n a d
 put_blank_all field units place start n at m unit a b c d long blob written changed zeros =
     let end = place + 3 in
@@ -66,7 +66,7 @@ put_blank_all field units place start n at m unit a b c d long blob written chan
     (zeros_blank end at m start n c d changed zeros)
 
 -- a slot page is written after the others, and unit 0
-pub page_blank : (pages : ℕ) (unit : List ℕ) (a b c : Units) → SameOutside (256 * pages) 256 a b → c ≡ put 0 (unit ∷ []) b
+pub page_blank : (pages : ℕ) (unit : List ℕ) (a b c : Units) → SameOutside (256 * pages) 256 a b → c ≡ with_units 0 (unit ∷ []) b
     → KeepsBlank (256 * (pages + 1)) 0 0 a c
 page_blank pages unit a b c changed written i low aside was =
     put_blank 0 unit (256 * (pages + 1)) 0 0 b c (omega arith) written i low aside (changed.above i (omega (arith, low)) ∙ was)
@@ -117,9 +117,9 @@ freed_none end slots file i had from not = elim had [ inl has ↦ absurd (not ha
 
 -- one move more
 pub freed_more : (end : ℕ) (slots now : List Slot) (m : Move) (old : Slot) (F0 F1 F2 : Units) → slot_at now m.place ≡ old → m.place < length now
-    → is_used (moved old m.to) ≡ true → m.place + 3 ≤ end → AreFreed end slots F0 now F1
+    → is_used (moved_slot old m.to) ≡ true → m.place + 3 ≤ end → AreFreed end slots F0 now F1
     → ((i : ℕ) → old.offset ≤ i → end ≤ i → i < end_of old → unit_at F2 i ≡ blank)
-    → KeepsBlank (m.place + 3) m.to old.count F1 F2 → AreFreed end slots F0 (set now m.place (moved old m.to)) F2
+    → KeepsBlank (m.place + 3) m.to old.count F1 F2 → AreFreed end slots F0 (set now m.place (moved_slot old m.to)) F2
 freed_more end slots now m old F0 F1 F2 is below used low freed zeros keeps i had from not =
     elim (cases_lt i old.offset) [
       | inl before ↦ stays (λ x. omega (arith, before, x.0))
@@ -131,8 +131,8 @@ freed_more end slots now m old F0 F1 F2 is below used low freed zeros keeps i ha
   where
     stays : (old.offset ≤ i × (i < end_of old) → ⊥) → unit_at F2 i ≡ blank
     stays aside =
-        keeps i (omega (arith, low, from)) (not_there now m.place below (moved old m.to) used i not)
-        (freed i had from (λ has. aside (subst (λ (t : Slot). t.offset ≤ i × (i < end_of t)) is (was_there now m.place below (moved old m.to) i has not))))
+        keeps i (omega (arith, low, from)) (not_there now m.place below (moved_slot old m.to) used i not)
+        (freed i had from (λ has. aside (subst (λ (t : Slot). t.offset ≤ i × (i < end_of t)) is (was_there now m.place below (moved_slot old m.to) i has not))))
 
 -- ---- free slots after
 

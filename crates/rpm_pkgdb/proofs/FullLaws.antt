@@ -1,8 +1,8 @@
 -- A plan shows that the store isn't full: only one list of moves is asked for.
 use Rattle.std.proofs.Common.{◌≡◌, ◌≢◌, inl, inr, ℕ, ◌+◌, ◌*◌, ◌<◌, ◌≤◌, List, [], ◌∷◌, true, Bool, Option, Some, None, is_none, refl, sym, ap, ◌∙◌, subst, arith}
 use Rattle.std.proofs.lemmas.Bool.{cases_eq, cases_lt}
-use Rattle.rpm_pkgdb.proofs.Vocabulary.{after_move, after_moves, AreAllUsed, AreBehind, AreMoves, blocks_for, CanAdd, CantMove, Fits, FitsNowhere, grown}
-use Rattle.rpm_pkgdb.proofs.Vocabulary.{is_used, IsFor, IsFull, IsLeast, IsNextMove, IsPlan, Move, moves_of, NeedsPage, next_end, NoMove, NoRoom, Plan, Slot}
+use Rattle.rpm_pkgdb.proofs.Vocabulary.{after_move, after_moves, AreAllUsed, AreBehind, AreMoves, blocks_for, CanAdd, CantMove, FitsSlots, FitsNowhere, grown}
+use Rattle.rpm_pkgdb.proofs.Vocabulary.{is_used, IsFor, IsStoreFull, IsLeast, IsNextMove, IsPlan, Move, moves_of, NeedsPage, next_end, NoMove, NoRoom, Plan, Slot}
 use Rattle.rpm_pkgdb.proofs.Vocabulary.{slot_at, Store}
 
 pub least_same : (slots : List Slot) (count from a b : ℕ) → IsLeast slots count from a → IsLeast slots count from b → a ≡ b
@@ -39,7 +39,7 @@ module _ (end : ℕ) where
       → (done : List Move) → AreMoves slots end done → AreBehind (after_moves slots done) end → ⊥
   cant slots [] are place used before first nowhere [] also behind = omega (arith, behind place used, before)
   cant slots [] are place used before first nowhere (n ∷ done) also behind = elim (cases_eq n.place place) [
-    | inl same ↦ nowhere n.to also.0.least.from_on (subst (λ (k : ℕ). Fits slots (slot_at slots k).count n.to) same also.0.least.fits)
+    | inl same ↦ nowhere n.to also.0.least.from_on (subst (λ (k : ℕ). FitsSlots slots (slot_at slots k).count n.to) same also.0.least.fits)
     | inr other ↦
         (let back : place ≢ n.place = λ same. other (sym same) in
         omega (arith, also.0.first place back used, first n.place also.0.used))
@@ -77,14 +77,14 @@ not_stuck v is_new (Some moves) needs new all stuck =
     cant (next_end v) v.slots stuck.moves stuck.are stuck.place stuck.used stuck.before stuck.first stuck.nowhere moves needs.1.are needs.1.behind
 
 full_not : (v : Store) (is_new : Bool) (length : ℕ) (moves : Option (List Move)) (start : ℕ) → NeedsPage v is_new moves
-    → IsLeast (grown moves v).slots (blocks_for length) (256 * (grown moves v).pages) start → IsFull v is_new length → ⊥
+    → IsLeast (grown moves v).slots (blocks_for length) (256 * (grown moves v).pages) start → IsStoreFull v is_new length → ⊥
 full_not v is_new length moves start needs least (NoRoom others also nowhere) =
     let same : others ≡ moves = same_needs v is_new others moves also needs in
     subst (λ (o : Option (List Move)). FitsNowhere (grown o v).slots (blocks_for length) (256 * (grown o v).pages)) same nowhere
     start least.from_on least.fits
 full_not v is_new length moves start needs least (NoMove new all stuck) = not_stuck v is_new moves needs new all stuck
 
-pub not_full : (v : Store) (n : Option ℕ) (length : ℕ) (plan : Plan) → IsPlan v plan → IsFor n length plan → ¬ IsFull v (is_none n) length
+pub not_full : (v : Store) (n : Option ℕ) (length : ℕ) (plan : Plan) → IsPlan v plan → IsFor n length plan → ¬ IsStoreFull v (is_none n) length
 not_full v n length plan is for full =
     let least = is.target.start in
     full_not v (is_none n) length (moves_of plan.page) plan.target.start (subst (λ (b : Bool). NeedsPage v b (moves_of plan.page)) for.new is.page)
@@ -92,7 +92,7 @@ not_full v n length plan is for full =
     for.length_is least) full
 
 -- it looks at slots and pages alone
-pub same_full : (v w : Store) (is_new : Bool) (length : ℕ) → v.slots ≡ w.slots → v.pages ≡ w.pages → IsFull v is_new length → IsFull w is_new length
+pub same_full : (v w : Store) (is_new : Bool) (length : ℕ) → v.slots ≡ w.slots → v.pages ≡ w.pages → IsStoreFull v is_new length → IsStoreFull w is_new length
 same_full v w is_new length slots pages (NoRoom moves needs nowhere) = NoRoom moves (same_page moves needs) (same_room moves nowhere)
   where
     same_can : (l : List Move) → CanAdd v l → CanAdd w l

@@ -4,8 +4,8 @@ use Rattle.std.specs.FinMap as finite
 use Rattle.std.proofs.lemmas.Cmp.{nat_cmp_total}
 use Rattle.std.proofs.lemmas.Bool.{cases_lt}
 use Rattle.std.proofs.lemmas.List.{get_or_append_left, get_or-append_right, get_or-replicate, get_or_past, length-replicate}
-use Rattle.rpm_pkgdb.proofs.Vocabulary.{AreApart, AreSound, BeforeOrAfter, blobs, CanGrow, end_of, free, has_number, HasFreePage, is_used, IsClear}
-use Rattle.rpm_pkgdb.proofs.Vocabulary.{IsHeadUnit, IsMade, IsPlaced, IsSlotUnit, Keeps, put, SameOutside, Slot, slot_at, slot_with, StandsAs, Store, Torn}
+use Rattle.rpm_pkgdb.proofs.Vocabulary.{AreSlotsApart, AreSound, StoreBeforeOrAfter, blobs, CanGrow, end_of, free, has_number, HasFreePage, is_used, IsClear}
+use Rattle.rpm_pkgdb.proofs.Vocabulary.{IsHeadUnit, IsMade, IsPlaced, IsSlotUnit, KeepsStore, with_units, SameOutside, Slot, slot_at, slot_with, RepresentsStore, Store, Torn}
 use Rattle.rpm_pkgdb.proofs.Vocabulary.{unit_at, Units, with_page, word}
 use Rattle.rpm_pkgdb.proofs.Facts.{cases_Bool, number_facts}
 use Rattle.rpm_pkgdb.proofs.BlobMaps.{same_get}
@@ -53,7 +53,7 @@ module _ (st : Store) (can : CanGrow st) where
   page_clear = record { behind = omega arith; apart = λ k used. inl (omega (arith, can.clear k used)) }
 
   -- while the page is written
-  pub while_page : (file from image : Units) → StandsAs st file from → SameOutside (256 * st.pages) 256 from image → StandsAs st file image
+  pub while_page : (file from image : Units) → RepresentsStore st file from → SameOutside (256 * st.pages) 256 from image → RepresentsStore st file image
   while_page file from image stands same =
       let m = made from st stands.keeps can.made in
       record {
@@ -80,13 +80,13 @@ module _ (st : Store) (can : CanGrow st) where
         let was_j = still_used st.slots j used_j in
         let was_k = still_used st.slots k used_k in
         let both = sound.apart j k differs (ap is_used (sym was_j.1) ∙ used_j) (ap is_used (sym was_k.1) ∙ used_k) in
-        subst (λ (t : Slot). AreApart t (slot_at after.slots k)) (sym was_j.1) (subst (AreApart (slot_at st.slots j)) (sym was_k.1) both);
+        subst (λ (t : Slot). AreSlotsApart t (slot_at after.slots k)) (sym was_j.1) (subst (AreSlotsApart (slot_at st.slots j)) (sym was_k.1) both);
   }
 
   module _ (unit : List ℕ) (is : IsHeadUnit unit st.generation (st.pages + 1)) where
-    grown_made : (file : Units) → IsMade file st → HasFreePage st.pages file → IsMade (put 0 (unit ∷ []) file) after
+    grown_made : (file : Units) → IsMade file st → HasFreePage st.pages file → IsMade (with_units 0 (unit ∷ []) file) after
     grown_made file m page =
-        let next = put 0 (unit ∷ []) file in
+        let next = with_units 0 (unit ∷ []) file in
         let long = put_length 0 unit file (omega (arith, page.long)) in
         record {
           lawful = record { some = omega arith; inside = omega (arith, long, page.long); below = can.limit };
@@ -105,11 +105,12 @@ module _ (st : Store) (can : CanGrow st) where
           sound = subst (λ (n : ℕ). AreSound (st.pages + 1) n after.slots) (sym long) (grown_sound (length file) m.sound);
         }
 
-    pub grown_stands : (file from : Units) → StandsAs st file from → HasFreePage st.pages from → StandsAs after file (put 0 (unit ∷ []) from)
+    pub grown_stands : (file from : Units) → RepresentsStore st file from → HasFreePage st.pages from
+        → RepresentsStore after file (with_units 0 (unit ∷ []) from)
     grown_stands file from stands page =
         let m = made from st stands.keeps can.made in
         record {
-          keeps = from_made (put 0 (unit ∷ []) from) after (grown_made from m page);
+          keeps = from_made (with_units 0 (unit ∷ []) from) after (grown_made from m page);
           blocks = λ j i used low high.
               let was = still_used st.slots j used in
               let u = ap is_used (sym was.1) ∙ used in
@@ -119,15 +120,15 @@ module _ (st : Store) (can : CanGrow st) where
         }
 
     -- while unit 0 is written
-    pub while_grown : (file from image : Units) → StandsAs st file from → HasFreePage st.pages from → Torn 0 (unit ∷ []) from image
-        → BeforeOrAfter st after file image
+    pub while_grown : (file from image : Units) → RepresentsStore st file from → HasFreePage st.pages from → Torn 0 (unit ∷ []) from image
+        → StoreBeforeOrAfter st after file image
     while_grown file from image stands page torn = elim (torn_one 0 unit from image (omega (arith, page.long)) torn) [
-      | inl same ↦ inl (subst (StandsAs st file) (sym same) stands)
-      | inr new ↦ inr (subst (StandsAs after file) (sym new) (grown_stands file from stands page))
+      | inl same ↦ inl (subst (RepresentsStore st file) (sym same) stands)
+      | inr new ↦ inr (subst (RepresentsStore after file) (sym new) (grown_stands file from stands page))
     ]
 
   -- the blobs stay
-  pub grown_map : (file image : Units) → Keeps file st → StandsAs after file image → blobs image after ≡ blobs file st
+  pub grown_map : (file image : Units) → KeepsStore file st → RepresentsStore after file image → blobs image after ≡ blobs file st
   grown_map file image keeps stands =
       let here = made file st keeps can.made in
       let there = made image after stands.keeps (omega arith) in

@@ -1,6 +1,6 @@
 -- A slot page is added after its moves.
 use Rattle.std.proofs.Common.{◌≡◌, ◌⊎◌, ℕ, ◌+◌, ◌^◌, ◌<◌, ◌≤◌, List, length, take, true, sym, ap, ◌∙◌, subst, arith}
-use Rattle.rpm_pkgdb.proofs.Vocabulary.{CanAdd, end_of, is_used, IsKept, IsMovable, IsNextOf, Keeps, Move, move_at, Pairs, Slot, slot_at, Store, Units}
+use Rattle.rpm_pkgdb.proofs.Vocabulary.{CanAdd, end_of, is_used, IsKept, IsMovable, IsNextOf, KeepsStore, Move, move_at, Pairs, Slot, slot_at, Store, Units}
 use Rattle.rpm_pkgdb.proofs.Vocabulary.{with_moves}
 use Rattle.rpm_pkgdb.proofs.Made.{made}
 use Rattle.rpm_pkgdb.proofs.Pairwise.{used_below}
@@ -35,5 +35,5 @@ module _ (v : Store) (some : 1 ≤ v.pages) (moves : List Move) (can : CanAdd v 
             subst (λ (s : Slot). (m.to + s.count ≤ s.offset) ⊎ (end_of s ≤ m.to)) same (fits.apart m.place next.used);
       }
 
-  pub moved_within : (file : Units) → Keeps file v → end_of (slot_at v.slots m.place) ≤ length file
+  pub moved_within : (file : Units) → KeepsStore file v → end_of (slot_at v.slots m.place) ≤ length file
   moved_within file keeps = ((made file v keeps some).sound.placed m.place used).inside

@@ -1,7 +1,7 @@
 -- The slot of a number that a value holds.
 use Rattle.std.proofs.Common.{◌≡◌, ◌≢◌, inl, inr, ℕ, ◌+◌, ◌^◌, ◌<◌, ◌≤◌, List, length, true, Some, None, IsSome, min, sym, ap, ◌∙◌, subst, arith, set, length-set}
 use Rattle.std.proofs.lemmas.Bool.{cases_eq}
-use Rattle.rpm_pkgdb.proofs.Vocabulary.{AreSound, AreUsedTo, Drops, end_of, erased, find_in, free, freed, has_number, HasSlot, is_used, IsKept}
+use Rattle.rpm_pkgdb.proofs.Vocabulary.{AreSound, AreUsedTo, MapWithoutOne, end_of, without_number, find_in, free, freed_slots, has_number, HasSlot, is_used, IsKept}
 use Rattle.rpm_pkgdb.proofs.Vocabulary.{IsPackageNumber, Pairs, Slot, slot_at, slot_with, Store, with_free}
 use Rattle.rpm_pkgdb.proofs.Facts.{number_facts}
 use Rattle.rpm_pkgdb.proofs.ClearLaws.{free_sound, set_here, set_other}
@@ -49,13 +49,13 @@ module _ (numbers : Pairs) (pages : ℕ) (slots : List Slot) (kept : IsKept numb
   pub held_with : (st : Store) (s : Slot) → st.slots ≡ slots → s ≡ slot_at slots k → slot_with n st.slots ≡ Some s
   held_with st s same is = ap (slot_with n) same ∙ with_at pages (2 ^ 28) slots kept.sound n k held_has ∙ ap Some (sym is)
 
-  pub held_erased : (st : Store) → st.slots ≡ slots → with_free k st ≡ erased n st
+  pub held_erased : (st : Store) → st.slots ≡ slots → with_free k st ≡ without_number n st
   held_erased st same =
-      let e : set st.slots k free ≡ freed n st.slots =
-      ap (λ (l : List Slot). set l k free) same ∙ sym (freed_is_set pages (2 ^ 28) slots kept.sound n k held_has) ∙ ap (freed n) (sym same) in
+      let e : set st.slots k free ≡ freed_slots n st.slots =
+      ap (λ (l : List Slot). set l k free) same ∙ sym (freed_is_set pages (2 ^ 28) slots kept.sound n k held_has) ∙ ap (freed_slots n) (sym same) in
       ap (λ (l : List Slot). record st { slots = l }) e
 
-  pub freed_kept : (next : Pairs) → Drops (find_in numbers) (find_in next) n → IsKept next pages (set slots k free)
+  pub freed_kept : (next : Pairs) → MapWithoutOne (find_in numbers) (find_in next) n → IsKept next pages (set slots k free)
   freed_kept next drops = record {
     places = record {
       each = λ j below used. elim (cases_eq j k) [

@@ -1,6 +1,6 @@
 -- The slot of a number, by a map to its place; and a lawful head.
 use Rattle.std.proofs.Common.{◌≡◌, ℕ, zero, suc, ◌*◌, ◌^◌, ◌<◌, ◌≤◌, List, [], ◌∷◌, length, get_or, take, drop, Bool, true, false, Option, Some, None, IsSome, is_some, refl, sym, ap, ◌∙◌, arith, inl, inr, if◌then◌else◌}
-use Rattle.rpm_pkgdb.proofs.Vocabulary.{find, free, greatest_number, has_number, HasPlaces, head_reason, is_used, IsGreatest, IsNext, IsPackageNumber}
+use Rattle.rpm_pkgdb.proofs.Vocabulary.{find, free, greatest_number, has_number, HasPlaces, head_reason, is_used, IsGreatest, IsNextFound, IsPackageNumber}
 use Rattle.rpm_pkgdb.proofs.Vocabulary.{list_any, Slot, slot_at, slot_with, unit_at, Units, word}
 use Rattle.std.proofs.lemmas.List.Folds.{list_any_at}
 use Rattle.std.proofs.lemmas.Bool.{cases_lt, cases_Bool}
@@ -48,7 +48,7 @@ module _ (f : ℕ → Option ℕ) (slots : List Slot) (has : HasPlaces f slots) 
       let same : it.at ≡ k = some_same (f n) it.at k also found in
       it.is ∙ ap (λ (j : ℕ). Some (slot_at slots j)) same
 
-  pub next_kept : (n : ℕ) (r : Option ℕ) → IsNext f n r → IsNext (λ m. slot_with m slots) n r
+  pub next_kept : (n : ℕ) (r : Option ℕ) → IsNextFound f n r → IsNextFound (λ m. slot_with m slots) n r
   next_kept n None none = λ k above. slot_missing k (none k above)
   next_kept n (Some m) (above, found, none) = (above, known (f m) refl found, λ k over under. slot_missing k (none k over under))
     where

@@ -1,8 +1,8 @@
 -- What a crash leaves while a database is made.
 use Rattle.std.proofs.Common.{◌≡◌, inl, inr, ℕ, ◌+◌, List, [], ◌∷◌, length, replicate, true, not, None, Ok, refl, sym, ap, ◌∙◌, subst, arith}
 use Rattle.rpm_pkgdb.proofs.Vocabulary.{AreSound, blank_store, blob_in, blobs, Files, frame_of, free, get-blobs, has_number, in_file, is_blank, is_nonzero}
-use Rattle.rpm_pkgdb.proofs.Vocabulary.{is_used, IsFirstPage, IsHeadUnit, IsMade, IsQuiet, IsSlotUnit, Keeps, list_any, made_new, MakesTo, nat_cmp}
-use Rattle.rpm_pkgdb.proofs.Vocabulary.{option_map, put, SameOutside, Slot, slot_at, slot_with, Store, store, Torn, unit_at, Units, word}
+use Rattle.rpm_pkgdb.proofs.Vocabulary.{is_used, IsFirstPage, IsHeadUnit, IsMade, IsQuiet, IsSlotUnit, KeepsStore, list_any, made_new, MakesTo, nat_cmp}
+use Rattle.rpm_pkgdb.proofs.Vocabulary.{option_map, with_units, SameOutside, Slot, slot_at, slot_with, Store, store, Torn, unit_at, Units, word}
 use Rattle.std.specs.FinMap as finite
 use Rattle.std.proofs.lemmas.Cmp.{nat_cmp_total}
 use Rattle.std.proofs.lemmas.Bool.{cases_lt}
@@ -20,7 +20,7 @@ unfolding store
 blank_says file blank = rw blank refl
 
 -- a store of no pages is a blank file's
-pub says_blank : (file : Units) (st : Store) → Keeps file st → st.pages ≡ 0 → is_blank file ≡ true
+pub says_blank : (file : Units) (st : Store) → KeepsStore file st → st.pages ≡ 0 → is_blank file ≡ true
 says_blank file st keeps none = elim (cases_Bool (is_blank file)) [
   | inl blank ↦ blank
   | inr made ↦ absurd (omega (arith, made_pages file (in_file st) made keeps, none))
@@ -66,9 +66,9 @@ module _ (st : Store) (unit : List ℕ) (is : IsHeadUnit unit 1 1) where
   abbrev after : Store
   after = made_new st
 
-  pub new_made : (file : Units) → IsFirstPage file → IsMade (put 0 (unit ∷ []) file) after
+  pub new_made : (file : Units) → IsFirstPage file → IsMade (with_units 0 (unit ∷ []) file) after
   new_made file page =
-      let next = put 0 (unit ∷ []) file in
+      let next = with_units 0 (unit ∷ []) file in
       let long = put_length 0 unit file (omega (arith, page.long)) in
       record {
         lawful = record { some = omega arith; inside = omega (arith, long, page.long); below = omega arith };
@@ -87,19 +87,20 @@ module _ (st : Store) (unit : List ℕ) (is : IsHeadUnit unit 1 1) where
     | inl same ↦ inl (subst (λ (u : Units). store u ≡ Ok blank_store) (sym same) (blank_says from blank))
     | inr new ↦ inr (record {
       value = in_file after;
-      undamaged = subst (λ (u : Units). Keeps u after) (sym new) (from_made (put 0 (unit ∷ []) from) after (new_made from page));
+      undamaged = subst (λ (u : Units). KeepsStore u after) (sym new) (from_made (with_units 0 (unit ∷ []) from) after (new_made from page));
       generation_is = refl;
       field_is = refl;
       blobs_are = unfolded image after ∙ new_map after image refl;
     })
   ]
 
-  pub new_keeps : (file next : Units) → IsFirstPage file → next ≡ put 0 (unit ∷ []) file → Keeps next after
-  new_keeps file next page written = subst (λ (u : Units). Keeps u after) (sym written) (from_made (put 0 (unit ∷ []) file) after (new_made file page))
+  pub new_keeps : (file next : Units) → IsFirstPage file → next ≡ with_units 0 (unit ∷ []) file → KeepsStore next after
+  new_keeps file next page written =
+      subst (λ (u : Units). KeepsStore u after) (sym written) (from_made (with_units 0 (unit ∷ []) file) after (new_made file page))
 
-  pub new_quiet : (next : Files) (images : Files → Type 0) → Keeps next.pkg after → ((image : Files) → images image → image.pkg ≡ next.pkg)
+  pub new_quiet : (next : Files) (images : Files → Type 0) → KeepsStore next.pkg after → ((image : Files) → images image → image.pkg ≡ next.pkg)
       → IsQuiet after next images
-  new_quiet next images keeps settled image here = record {
-    keeps = subst (λ (u : Units). Keeps u after) (sym (settled image here)) keeps;
+  new_quiet next images keeps durable image here = record {
+    keeps = subst (λ (u : Units). KeepsStore u after) (sym (durable image here)) keeps;
     blocks = λ k i used from to. absurd (not_used k used);
   }

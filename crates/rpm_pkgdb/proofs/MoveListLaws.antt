@@ -2,7 +2,7 @@
 use Rattle.std.proofs.Common.{◌≡◌, ◌⊎◌, inl, inr, ℕ, zero, suc, ◌+◌, ◌*◌, ◌<◌, ◌≤◌, List, [], ◌∷◌, ◌++◌, length, take, refl, sym, ap, ◌∙◌, subst, arith, set, get_or-set_same, get_or-set_other}
 use Rattle.std.proofs.lemmas.Bool.{cases_eq}
 use Rattle.std.proofs.lemmas.List.{take_more}
-use Rattle.rpm_pkgdb.proofs.Vocabulary.{AreMovesOf, CanMove, free, IsNextOf, Move, move_at, moved, no_move, Slot, slot_at, Store, with_move, with_moves}
+use Rattle.rpm_pkgdb.proofs.Vocabulary.{AreMovesOf, CanMove, free, IsNextOf, Move, move_at, moved_slot, no_move, Slot, slot_at, Store, with_move, with_moves}
 use Rattle.rpm_pkgdb.proofs.Pairwise.{used_below}
 
 pub next_can : (value : Store) (m : Move) → 1 ≤ value.pages → IsNextOf value m → CanMove value m.place (slot_at value.slots m.place) m.to
@@ -45,12 +45,12 @@ keep_more value after m kept next = record {
   field_is = kept.field_is;
   each = λ j. elim (cases_eq j m.place) [
     | inl here ↦
-        (let s : Slot = moved (slot_at after.slots m.place) m.to in
+        (let s : Slot = moved_slot (slot_at after.slots m.place) m.to in
         let now : slot_at (set after.slots m.place s) j ≡ s =
         ap (slot_at (set after.slots m.place s)) here ∙ get_or-set_same after.slots m.place s free (used_below after.slots m.place next.used) in
         inr (subst (λ (t : Slot). 256 * (value.pages + 1) ≤ t.offset) (sym now) (omega (arith, next.least.from_on, kept.pages_are))))
     | inr other ↦
-        (let s : Slot = moved (slot_at after.slots m.place) m.to in
+        (let s : Slot = moved_slot (slot_at after.slots m.place) m.to in
         let stays : slot_at (set after.slots m.place s) j ≡ slot_at after.slots j = get_or-set_other after.slots m.place j s free other in
         elim (kept.each j) [
           | inl same ↦ inl (stays ∙ same)

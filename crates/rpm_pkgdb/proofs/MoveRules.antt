@@ -1,7 +1,7 @@
 -- The moves of a page as a function are those of the relation.
 use Rattle.std.proofs.Common.{◌≡◌, ◌≢◌, inl, inr, ℕ, suc, ◌<◌, ◌≤◌, List, [], ◌∷◌, set, true, false, Bool, nat_lt, ◌&&◌, Option, Some, None, refl, ap, ◌∙◌, arith}
 use Rattle.rpm_pkgdb.proofs.Vocabulary.{after_move, after_moves, all_moves, AreBehind, AreMoves, count_before, first_fit, first_used, FitsNowhere, free}
-use Rattle.rpm_pkgdb.proofs.Vocabulary.{is_first, is_used, IsFirstBefore, IsNextMove, list_any, Move, moved, moves_from, next_move, one_before}
+use Rattle.rpm_pkgdb.proofs.Vocabulary.{is_first, is_used, IsFirstBefore, IsNextMove, list_any, Move, moved_slot, moves_from, next_move, one_before}
 use Rattle.rpm_pkgdb.proofs.Vocabulary.{option_and_then, option_map, Slot, slot_at}
 use Rattle.std.proofs.lemmas.Bool.{cases_eq}
 use Rattle.std.proofs.lemmas.Bool.Decides.{nat_tests}
@@ -94,7 +94,7 @@ pub stuck_here : (slots : List Slot) (end place : ℕ) → IsFirstBefore slots e
     → FitsNowhere slots (slot_at slots place).count end → all_moves slots end ≡ None
 unfolding next_move
 stuck_here slots end place is first nowhere =
-    let left = count_before end (set slots place (moved (slot_at slots place) end)) in
+    let left = count_before end (set slots place (moved_slot (slot_at slots place) end)) in
     let count : count_before end slots ≡ suc left = omega (arith, one_less slots end place end is (omega arith)) in
     ap (λ (n : ℕ). moves_from n slots end) count ∙ more left slots end
     ∙ ap (λ (p : ℕ). option_and_then (λ (x : Move). onto x (moves_from left (after_move slots x) end))

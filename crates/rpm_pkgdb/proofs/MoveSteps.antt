@@ -1,6 +1,6 @@
 -- One move of several.
 use Rattle.std.proofs.Common.{◌≡◌, ℕ, ◌+◌, ◌<◌, ◌≤◌, List, length, take, Some, ap, ◌∙◌, subst, arith, ◌*◌}
-use Rattle.rpm_pkgdb.proofs.Vocabulary.{AreMovesOf, CanMove, Move, move_at, moved, moving_cost, no_move, Slot, slot_at, Store, with_moves, with_slot}
+use Rattle.rpm_pkgdb.proofs.Vocabulary.{AreMovesOf, CanMove, Move, move_at, moved_slot, moving_cost, no_move, Slot, slot_at, Store, with_moves, with_slot}
 use Rattle.std.proofs.lemmas.List.Sums.{sum_by_more, sum_by-take-le}
 use Rattle.rpm_pkgdb.proofs.MoveListLaws.{Keep, next_can, next_of, after_more, keep_all, unmoved}
 
@@ -43,5 +43,5 @@ module _ (value : Store) (slots : List Slot) (moves : List Move) (k : ℕ) (some
       subst (λ (s : Slot). CanMove current next.place s next.to) old_is
       (next_can current next (omega (arith, kept.pages_are)) (next_of value moves k are below))
 
-  pub then_after : with_moves value (take (k + 1) moves) ≡ with_slot next.place (moved old next.to) current
-  then_after = after_more value moves k below ∙ ap (λ (s : Slot). with_slot next.place (moved s next.to) current) old_is
+  pub then_after : with_moves value (take (k + 1) moves) ≡ with_slot next.place (moved_slot old next.to) current
+  then_after = after_more value moves k below ∙ ap (λ (s : Slot). with_slot next.place (moved_slot s next.to) current) old_is

@@ -1,8 +1,8 @@
 -- Blocks that are moved: the blobs stay.
 use Rattle.std.proofs.Common.{◌≡◌, ◌≢◌, inl, inr, ℕ, ◌+◌, ◌-◌, ◌<◌, ◌≤◌, List, [], ◌∷◌, length, take, drop, true, if◌then◌else◌, Option, Some, None, refl, sym, ap, ◌∙◌, subst, arith, set, length-drop}
-use Rattle.rpm_pkgdb.proofs.Vocabulary.{blank, blob_in, blobs, blocks_at, blocks_of, CanMove, CanSet, end_of, Frame, frame_of, get-blobs, has_number, Holds}
-use Rattle.rpm_pkgdb.proofs.Vocabulary.{is_framed, is_used, IsMade, IsSlotUnit, Keeps, moved, option_map, put, SameOutside, Slot, slot_at, slot_with}
-use Rattle.rpm_pkgdb.proofs.Vocabulary.{StandsAs, StandsSet, Store, Torn, unit_at, Units, WhileMoved, with_slot}
+use Rattle.rpm_pkgdb.proofs.Vocabulary.{blank, blob_in, blobs, blocks_at, blocks_of, CanMove, CanSet, end_of, Frame, frame_of, get-blobs, has_number, HasUnits}
+use Rattle.rpm_pkgdb.proofs.Vocabulary.{is_framed, is_used, IsMade, IsSlotUnit, KeepsStore, moved_slot, option_map, with_units, SameOutside, Slot, slot_at, slot_with}
+use Rattle.rpm_pkgdb.proofs.Vocabulary.{RepresentsStore, RepresentsSlot, Store, Torn, unit_at, Units, WhileMoved, with_slot}
 use Rattle.std.specs.FinMap as finite
 use Rattle.std.proofs.lemmas.Cmp.{nat_cmp_total}
 use Rattle.std.proofs.lemmas.Bool.{cases_eq}
@@ -16,9 +16,9 @@ use Rattle.rpm_pkgdb.proofs.ClearLaws.{set_here}
 use Rattle.rpm_pkgdb.proofs.FramingLaws.{held_part}
 use Rattle.rpm_pkgdb.proofs.SettingLaws.{aside_stands, set_stands, while_set, set_aside, old_clear, set_alike}
 
-module _ (st : Store) (place : ℕ) (old : Slot) (to : ℕ) (can : CanMove st place old to) (F0 : Units) (keeps : Keeps F0 st) where
+module _ (st : Store) (place : ℕ) (old : Slot) (to : ℕ) (can : CanMove st place old to) (F0 : Units) (keeps : KeepsStore F0 st) where
   abbrev s : Slot
-  s = moved old to
+  s = moved_slot old to
 
   abbrev us : Units
   us = blocks_of old F0
@@ -54,11 +54,11 @@ module _ (st : Store) (place : ℕ) (old : Slot) (to : ℕ) (can : CanMove st pl
   unit_in : (k : ℕ) → k < old.count → unit_at us k ≡ unit_at F0 (old.offset + k)
   unit_in k below = get_or-take old.count (drop old.offset F0) k blank below ∙ get_or-drop old.offset F0 k blank
 
-  held_before : Holds F0 old.offset us
+  held_before : HasUnits F0 old.offset us
   held_before = record { within = omega (arith, length-us, old_inside); each = λ k below. sym (unit_in k (omega (arith, below, length-us))) }
 
   -- once the blocks are copied
-  pub held_after : (F1 : Units) → to + old.count ≤ length F1 → ((i : ℕ) → i < old.count → unit_at F1 (to + i) ≡ unit_at F0 (old.offset + i)) → Holds F1 to us
+  pub held_after : (F1 : Units) → to + old.count ≤ length F1 → ((i : ℕ) → i < old.count → unit_at F1 (to + i) ≡ unit_at F0 (old.offset + i)) → HasUnits F1 to us
   held_after F1 long copied =
       record {
         within = omega (arith, long, length-us);
@@ -69,31 +69,31 @@ module _ (st : Store) (place : ℕ) (old : Slot) (to : ℕ) (can : CanMove st pl
   -- ---- the phases
 
   -- while the blocks are copied
-  pub while_copied : (from image : Units) → StandsAs st F0 from → SameOutside to old.count from image → WhileMoved st place old to F0 image
+  pub while_copied : (from image : Units) → RepresentsStore st F0 from → SameOutside to old.count from image → WhileMoved st place old to F0 image
   while_copied from image stands same = inl (aside_stands st place s move_set F0 from image stands same)
 
-  module _ (unit : List ℕ) (is : IsSlotUnit unit s) (F1 F2 : Units) (outside : SameOutside to old.count F0 F1) (holds : Holds F1 to us) where
-    copied_stands : StandsAs st F0 F1
+  module _ (unit : List ℕ) (is : IsSlotUnit unit s) (F1 F2 : Units) (outside : SameOutside to old.count F0 F1) (holds : HasUnits F1 to us) where
+    copied_stands : RepresentsStore st F0 F1
     copied_stands = aside_stands st place s move_set F0 F0 F1 (record { keeps = keeps; blocks = λ j i used at n. refl }) outside
 
     -- while the slot is written
     pub while_slot_moved : (from image : Units) → from ≡ F1 → Torn (2 + place) (unit ∷ []) from image → WhileMoved st place old to F0 image
     while_slot_moved from image same torn =
-        while_set st place s move_set us length-us unit is F0 from (subst (StandsAs st F0) (sym same) copied_stands)
-        (subst (λ (f : Units). Holds f to us) (sym same) holds) image torn
+        while_set st place s move_set us length-us unit is F0 from (subst (RepresentsStore st F0) (sym same) copied_stands)
+        (subst (λ (f : Units). HasUnits f to us) (sym same) holds) image torn
 
     -- while its old blocks become zeros
-    pub while_old_zeroed : F2 ≡ put (2 + place) (unit ∷ []) F1 → (at n : ℕ) → old.offset ≤ at → at + n ≤ end_of old → (from image : Units) → from ≡ F2
-        → SameOutside at n from image → StandsSet st place s us F0 image
+    pub while_old_zeroed : F2 ≡ with_units (2 + place) (unit ∷ []) F1 → (at n : ℕ) → old.offset ≤ at → at + n ≤ end_of old → (from image : Units) → from ≡ F2
+        → SameOutside at n from image → RepresentsSlot st place s us F0 image
     while_old_zeroed written at n low high from image same changed =
-        let now : StandsSet st place s us F0 F2 =
-        subst (StandsSet st place s us F0) (sym written) (set_stands st place s move_set us length-us unit is F0 F1 copied_stands holds) in
-        set_aside st place s move_set us length-us F0 from image (subst (StandsSet st place s us F0) (sym same) now) at n
+        let now : RepresentsSlot st place s us F0 F2 =
+        subst (RepresentsSlot st place s us F0) (sym written) (set_stands st place s move_set us length-us unit is F0 F1 copied_stands holds) in
+        set_aside st place s move_set us length-us F0 from image (subst (RepresentsSlot st place s us F0) (sym same) now) at n
         (old_clear st place s move_set (length F0) base.sound old can.slot.is can.slot.used at n low high) changed
 
   -- ---- the blobs
 
-  same_moved : (image : Units) → Holds image to us → frame_of old.number s image ≡ frame_of old.number old F0
+  same_moved : (image : Units) → HasUnits image to us → frame_of old.number s image ≡ frame_of old.number old F0
   same_moved image holds =
       let lt : 0 < length us = omega (arith, length-us, old_some) in
       let head : unit_at image to ≡ unit_at F0 old.offset =
@@ -106,7 +106,7 @@ module _ (st : Store) (place : ℕ) (old : Slot) (to : ℕ) (can : CanMove st pl
       ap (λ (x : Frame). if is_framed old.number old.count x then Some x else None) f
 
   -- the map is the same
-  pub moved_map : (image : Units) → StandsSet st place s us F0 image → blobs image (with_slot place s st) ≡ blobs F0 st
+  pub moved_map : (image : Units) → RepresentsSlot st place s us F0 image → blobs image (with_slot place s st) ≡ blobs F0 st
   moved_map image stands =
       let there = made image (with_slot place s st) stands.keeps can.slot.made in
       let here_s : slot_at (set st.slots place s) place ≡ s = set_here st.pages (length F0) st.slots base.sound place can.slot.below s in
@@ -128,7 +128,7 @@ module _ (st : Store) (place : ℕ) (old : Slot) (to : ℕ) (can : CanMove st pl
       ])
     where
       at_number : (m : ℕ) → m ≡ old.number → (image : Units) (ut : Store) → slot_with old.number ut.slots ≡ Some s
-          → slot_with old.number st.slots ≡ Some old → Holds image to us → finite.get (blobs image ut) m ≡ finite.get (blobs F0 st) m
+          → slot_with old.number st.slots ≡ Some old → HasUnits image to us → finite.get (blobs image ut) m ≡ finite.get (blobs F0 st) m
       at_number m same image ut new_with old_with holds =
           ap (finite.get (blobs image ut)) same ∙ get-blobs image ut old.number
           ∙ ap (option_map (λ t. option_map blob_in (frame_of old.number t image))) new_with
@@ -136,5 +136,5 @@ module _ (st : Store) (place : ℕ) (old : Slot) (to : ℕ) (can : CanMove st pl
           ∙ sym (ap (finite.get (blobs F0 st)) same ∙ get-blobs F0 st old.number
           ∙ ap (option_map (λ t. option_map blob_in (frame_of old.number t F0))) old_with)
 
-  pub moved_alike : (a b : Units) → StandsSet st place s us F0 a → StandsSet st place s us F0 b → StandsAs (with_slot place s st) a b
+  pub moved_alike : (a b : Units) → RepresentsSlot st place s us F0 a → RepresentsSlot st place s us F0 b → RepresentsStore (with_slot place s st) a b
   moved_alike a b in_a in_b = set_alike st place s move_set us length-us F0 a b in_a in_b

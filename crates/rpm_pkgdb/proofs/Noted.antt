@@ -3,9 +3,9 @@ use Rattle.std.proofs.Common.{◌≡◌, ◌≢◌, ◌⊎◌, inl, inr, ℕ, �
 use Rattle.std.specs.Prelude.{Contains}
 use Rattle.std.proofs.lemmas.Bool.{cases_eq}
 use Rattle.std.proofs.lemmas.Bool.Decides.{nat_tests}
-use Rattle.rpm_pkgdb.proofs.Vocabulary.{Adds, AreRangesOf, AreUsedTo, begins_in, Blocks, blocks_for, find_in, Forgets, ForgetsSlot, free, has_number}
-use Rattle.rpm_pkgdb.proofs.Vocabulary.{HasStart, HasUsed, is_used, IsFreeIn, IsKept, IsPackageNumber, IsTarget, Pairs, Range, range_of, Remembers, Slot}
-use Rattle.rpm_pkgdb.proofs.Vocabulary.{slot_at, slot_for, Store, Target, UsedBy, with_range, with_range_here, with_range_keeps, with_range_only, without}
+use Rattle.rpm_pkgdb.proofs.Vocabulary.{MapWithOne, AreRangesOf, AreUsedTo, begins_in, Blocks, blocks_for, find_in, Forgets, ForgetsSlot, free, has_number}
+use Rattle.rpm_pkgdb.proofs.Vocabulary.{HasStart, HasUsed, is_used, IsFreeIn, IsKept, IsPackageNumber, IsTarget, Pairs, Range, range_of_slot, HasRange, Slot}
+use Rattle.rpm_pkgdb.proofs.Vocabulary.{slot_at, slot_for, Store, Target, UsedSlotOf, with_range, with_range_here, with_range_keeps, with_range_only, without}
 use Rattle.rpm_pkgdb.proofs.Vocabulary.{without_keeps, without_only}
 use Rattle.rpm_pkgdb.proofs.Facts.{cases_Bool, number_facts, has_it_from}
 use Rattle.rpm_pkgdb.proofs.Pairwise.{used_below}
@@ -68,7 +68,7 @@ module _ (numbers : Pairs) (v : Store) (target : Target) (is : IsTarget v target
     pub here : find_in next target.number ≡ Some k
     pub others : (m : ℕ) → m ≢ target.number → find_in next m ≡ find_in numbers m
 
-  pub says : (next : Pairs) → (target.is_new ≡ true → Adds (find_in numbers) (find_in next) target.number k) → (target.is_new ≡ false → next ≡ numbers)
+  pub says : (next : Pairs) → (target.is_new ≡ true → MapWithOne (find_in numbers) (find_in next) target.number k) → (target.is_new ≡ false → next ≡ numbers)
       → Says next
   says next new held = elim (cases_Bool target.is_new) [
     | inl is_new ↦ (let a = new is_new in record { here = a.here; others = a.others })
@@ -149,42 +149,43 @@ module _ (numbers : Pairs) (v : Store) (target : Target) (is : IsTarget v target
       | inr not_new ↦ ap is_used (sym (held not_new)) ∙ unused
     ]
 
-    pub has_old_start : (used mid : Option Blocks) (spare : ℕ) → HasUsed used spare slots → Remembers s used mid → is_used old ≡ true → HasStart mid old.offset
+    pub has_old_start : (used mid : Option Blocks) (spare : ℕ) → HasUsed used spare slots → HasRange s used mid → is_used old ≡ true → HasStart mid old.offset
     has_old_start None mid spare has added used_old = absurd added
     has_old_start (Some b) None spare has added used_old = absurd added
     has_old_start (Some b) (Some d) spare has added used_old =
         let at = old_is used_old in
-        let there : Contains b.ranges (range_of old) =
-        subst (λ (t : Slot). Contains b.ranges (range_of t)) (sym at) (has.0.each k (ap is_used (sym at) ∙ used_old)) in
-        begins_in d.ranges (range_of old) (subst (λ (l : List Range). Contains l (range_of old)) (sym added.0)
-        (with_range_keeps (range_of s) (range_of old) b.ranges there))
+        let there : Contains b.ranges (range_of_slot old) =
+        subst (λ (t : Slot). Contains b.ranges (range_of_slot t)) (sym at) (has.0.each k (ap is_used (sym at) ∙ used_old)) in
+        begins_in d.ranges (range_of_slot old) (subst (λ (l : List Range). Contains l (range_of_slot old)) (sym added.0)
+        (with_range_keeps (range_of_slot s) (range_of_slot old) b.ranges there))
 
-    module _ (b d : Blocks) (are : AreRangesOf b.ranges slots) (added : d.ranges ≡ with_range (range_of s) b.ranges) where
-      there_new : Contains d.ranges (range_of s)
-      there_new = subst (λ (l : List Range). Contains l (range_of s)) (sym added) (with_range_here (range_of s) b.ranges)
+    module _ (b d : Blocks) (are : AreRangesOf b.ranges slots) (added : d.ranges ≡ with_range (range_of_slot s) b.ranges) where
+      there_new : Contains d.ranges (range_of_slot s)
+      there_new = subst (λ (l : List Range). Contains l (range_of_slot s)) (sym added) (with_range_here (range_of_slot s) b.ranges)
 
-      there_old : (j : ℕ) → is_used (slot_at slots j) ≡ true → Contains d.ranges (range_of (slot_at slots j))
+      there_old : (j : ℕ) → is_used (slot_at slots j) ≡ true → Contains d.ranges (range_of_slot (slot_at slots j))
       there_old j used =
-          subst (λ (l : List Range). Contains l (range_of (slot_at slots j))) (sym added)
-          (with_range_keeps (range_of s) (range_of (slot_at slots j)) b.ranges (are.each j used))
+          subst (λ (l : List Range). Contains l (range_of_slot (slot_at slots j))) (sym added)
+          (with_range_keeps (range_of_slot s) (range_of_slot (slot_at slots j)) b.ranges (are.each j used))
 
-      from_there : (x : Range) → Contains d.ranges x → (x ≡ range_of s) ⊎ UsedBy slots x
-      from_there x there = elim (with_range_only (range_of s) x b.ranges (subst (λ (l : List Range). Contains l x) added there)) [
+      from_there : (x : Range) → Contains d.ranges x → (x ≡ range_of_slot s) ⊎ UsedSlotOf slots x
+      from_there x there = elim (with_range_only (range_of_slot s) x b.ranges (subst (λ (l : List Range). Contains l x) added there)) [
         | inl here ↦ inl here
         | inr old_one ↦ inr (are.only x old_one)
       ]
 
-      by_new : (x : Range) → x ≡ range_of s → UsedBy after x
-      by_new x e = record { at = k; used = ap is_used new_at ∙ used_new; is = e ∙ ap range_of (sym new_at) }
+      by_new : (x : Range) → x ≡ range_of_slot s → UsedSlotOf after x
+      by_new x e = record { at = k; used = ap is_used new_at ∙ used_new; is = e ∙ ap range_of_slot (sym new_at) }
 
-      by_old : (x : Range) (u : UsedBy slots x) → u.at ≢ k → UsedBy after x
-      by_old x u other = record { at = u.at; used = ap is_used (same_at u.at other) ∙ u.used; is = u.is ∙ ap range_of (sym (same_at u.at other)) }
+      by_old : (x : Range) (u : UsedSlotOf slots x) → u.at ≢ k → UsedSlotOf after x
+      by_old x u other = record { at = u.at; used = ap is_used (same_at u.at other) ∙ u.used; is = u.is ∙ ap range_of_slot (sym (same_at u.at other)) }
 
       noted_free : is_used (slot_at slots k) ≡ false → AreRangesOf d.ranges after
       noted_free unused = record {
         each = λ j used. elim (cases_eq j k) [
-          | inl here ↦ subst (λ (t : Slot). Contains d.ranges (range_of t)) (sym (ap (slot_at after) here ∙ new_at)) there_new
-          | inr other ↦ subst (λ (t : Slot). Contains d.ranges (range_of t)) (sym (same_at j other)) (there_old j (ap is_used (sym (same_at j other)) ∙ used))
+          | inl here ↦ subst (λ (t : Slot). Contains d.ranges (range_of_slot t)) (sym (ap (slot_at after) here ∙ new_at)) there_new
+          | inr other ↦ subst (λ (t : Slot). Contains d.ranges (range_of_slot t)) (sym (same_at j other))
+              (there_old j (ap is_used (sym (same_at j other)) ∙ used))
         ];
         only = λ x there. elim (from_there x there) [
           | inl here ↦ by_new x here
@@ -201,14 +202,14 @@ module _ (numbers : Pairs) (v : Store) (target : Target) (is : IsTarget v target
 
         noted_held : AreRangesOf e.ranges after
         noted_held = record {
-          each = λ j used. subst (λ (l : List Range). Contains l (range_of (slot_at after j))) (sym gone) (elim (cases_eq j k) [
+          each = λ j used. subst (λ (l : List Range). Contains l (range_of_slot (slot_at after j))) (sym gone) (elim (cases_eq j k) [
             | inl here ↦
-                subst (λ (t : Slot). Contains (without (slot_at slots k).offset d.ranges) (range_of t)) (sym (ap (slot_at after) here ∙ new_at))
-                (without_keeps (slot_at slots k).offset (range_of s) d.ranges start_differs there_new)
+                subst (λ (t : Slot). Contains (without (slot_at slots k).offset d.ranges) (range_of_slot t)) (sym (ap (slot_at after) here ∙ new_at))
+                (without_keeps (slot_at slots k).offset (range_of_slot s) d.ranges start_differs there_new)
             | inr other ↦
                 (let was : is_used (slot_at slots j) ≡ true = ap is_used (sym (same_at j other)) ∙ used in
-                subst (λ (t : Slot). Contains (without (slot_at slots k).offset d.ranges) (range_of t)) (sym (same_at j other))
-                (without_keeps (slot_at slots k).offset (range_of (slot_at slots j)) d.ranges (other_start v.pages slots kept.sound j k other was used_k)
+                subst (λ (t : Slot). Contains (without (slot_at slots k).offset d.ranges) (range_of_slot t)) (sym (same_at j other))
+                (without_keeps (slot_at slots k).offset (range_of_slot (slot_at slots j)) d.ranges (other_start v.pages slots kept.sound j k other was used_k)
                 (there_old j was)))
           ]);
           only = λ x there.
@@ -219,7 +220,7 @@ module _ (numbers : Pairs) (v : Store) (target : Target) (is : IsTarget v target
               ];
         }
 
-    pub noted_used : (used mid last : Option Blocks) (spare : ℕ) → HasUsed used spare slots → Remembers s used mid → ForgetsSlot old mid last
+    pub noted_used : (used mid last : Option Blocks) (spare : ℕ) → HasUsed used spare slots → HasRange s used mid → ForgetsSlot old mid last
         → HasUsed last (spare - 1) after
     noted_used None mid last spare has added forgot = absurd added
     noted_used (Some b) None last spare has added forgot = absurd added

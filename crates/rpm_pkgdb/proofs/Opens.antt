@@ -1,7 +1,7 @@
 -- What a store is, by its unit 0.
 use Rattle.std.proofs.Common.{◌≡◌, ℕ, ◌*◌, ◌≤◌, inl, inr, List, [], ◌∷◌, length, true, false, not, Option, Some, None, Result, Ok, Err, IfOk, IfErr, refl, sym, ap, subst, ◌∙◌, arith}
-use Rattle.rpm_pkgdb.proofs.Vocabulary.{blank, blank_store, Damage, damage_at, head_cost, head_reason, in_file, is_blank, is_nonzero, Keeps, list_any}
-use Rattle.rpm_pkgdb.proofs.Vocabulary.{made_or_damaged, NoMemory, OpenFault, opening_cost, OpenIs, Reason, Store, store, store_of, unit_at, Units, word}
+use Rattle.rpm_pkgdb.proofs.Vocabulary.{blank, blank_store, Damage, damage_at, head_cost, head_reason, in_file, is_blank, is_nonzero, KeepsStore, list_any}
+use Rattle.rpm_pkgdb.proofs.Vocabulary.{made_or_damaged, NoMemory, OpenFault, opening_cost, OpenIs, Reason, Store, store, store_of_pages, unit_at, Units, word}
 use Rattle.rpm_pkgdb.proofs.Kept.{lawful}
 use Rattle.std.proofs.lemmas.Bool.{cases_Bool}
 
@@ -25,8 +25,8 @@ module _ (file : Units) (units : ℕ) (head : List ℕ) (long : units ≡ length
   pub store_damaged : not (list_any is_nonzero head) ≡ false → (r : Reason) → head_reason units head ≡ Some r → store file ≡ Err (damage_at 0 r)
   store_damaged some r fault = other some ∙ ap (λ (o : Option Reason). made_or_damaged o file) fault
 
-  pub store_made : not (list_any is_nonzero head) ≡ false → head_reason units head ≡ None → store file ≡ store_of (word 3 head) file
-  store_made some none = other some ∙ ap (λ (o : Option Reason). made_or_damaged o file) none ∙ ap (λ (u : List ℕ). store_of (word 3 u) file) (sym is)
+  pub store_made : not (list_any is_nonzero head) ≡ false → head_reason units head ≡ None → store file ≡ store_of_pages (word 3 head) file
+  store_made some none = other some ∙ ap (λ (o : Option Reason). made_or_damaged o file) none ∙ ap (λ (u : List ℕ). store_of_pages (word 3 u) file) (sym is)
 
 pub ok_keeps : (T : Type 0) (said : Result Store Damage) (r : Result Store OpenFault) → (T → OpenIs said r) → IfOk r (λ db. db ≡ in_file db)
     → IfOk r (λ db. T → said ≡ Ok (in_file db))
@@ -40,7 +40,7 @@ blank_opens file (Ok db) is err said = said ∙ ap Ok (sym is)
 blank_opens file (Err e) is err said = subst (λ (x : OpenFault). OpenIs (store file) (Err x)) (sym err) tt
 
 pub blank_keeps : (T : Type 0) (file : Units) (r : Result Store OpenFault) → IfOk r (λ db. db ≡ blank_store) → (T → store file ≡ Ok blank_store)
-    → IfOk r (λ db. T → Keeps file db)
+    → IfOk r (λ db. T → KeepsStore file db)
 blank_keeps T file (Ok db) is said = λ told. said told ∙ ap Ok (sym (ap in_file is))
 blank_keeps T file (Err e) is said = tt
 

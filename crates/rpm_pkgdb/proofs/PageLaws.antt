@@ -5,8 +5,8 @@ use Rattle.std.proofs.lemmas.Bool.{cases_eq}
 use Rattle.std.proofs.lemmas.Bool.Decides.{nat_tests}
 use Rattle.std.proofs.lemmas.List.Sums.{sum_by-set}
 use Rattle.rpm_pkgdb.proofs.Vocabulary.{after_move, after_moves, AllMoved, AreBehind, AreMoves, AreRangesOf, AreSound, CanSet, CantMove, count_before}
-use Rattle.rpm_pkgdb.proofs.Vocabulary.{FitsNowhere, free, is_used, IsFirstBefore, IsLeast, IsNextMove, IsPlanning, Move, moved, one_before, Page, Range}
-use Rattle.rpm_pkgdb.proofs.Vocabulary.{range, range_of, Slot, slot_at, Store, with_range, with_range_here, with_range_keeps, with_range_only, without}
+use Rattle.rpm_pkgdb.proofs.Vocabulary.{FitsNowhere, free, is_used, IsFirstBefore, IsLeast, IsNextMove, IsPlanning, Move, moved_slot, one_before, Page, Range}
+use Rattle.rpm_pkgdb.proofs.Vocabulary.{range, range_of_slot, Slot, slot_at, Store, with_range, with_range_here, with_range_keeps, with_range_only, without}
 use Rattle.rpm_pkgdb.proofs.Vocabulary.{without_keeps, without_only}
 use Rattle.rpm_pkgdb.proofs.ClearLaws.{set_here, set_other}
 use Rattle.rpm_pkgdb.proofs.RangeLaws.{other_start}
@@ -20,7 +20,7 @@ module _ (pages : ℕ) (slots : List Slot) (sound : AreSound pages (2 ^ 28) slot
   old = slot_at slots place
 
   abbrev new : Slot
-  new = moved (slot_at slots place) to
+  new = moved_slot (slot_at slots place) to
 
   used_new : is_used new ≡ true
   used_new = let far : to ≢ 0 = omega (arith, some, low, least.from_on) in grind (arith, nat_tests)
@@ -48,26 +48,27 @@ module _ (pages : ℕ) (slots : List Slot) (sound : AreSound pages (2 ^ 28) slot
   moved_ranges a b c are added gone =
       let new_at : slot_at (set slots place new) place ≡ new = set_here pages (2 ^ 28) slots sound place first.below new in
       let stays : (j : ℕ) → j ≢ place → slot_at (set slots place new) j ≡ slot_at slots j = set_other pages (2 ^ 28) slots sound place first.below new in
-      let there_new : Contains b (range_of new) = subst (λ (l : List Range). Contains l (range_of new)) (sym added) (with_range_here (range_of new) a) in
+      let there_new : Contains b (range_of_slot new) = subst (λ (l : List Range). Contains l (range_of_slot new)) (sym added)
+      (with_range_here (range_of_slot new) a) in
       record {
-        each = λ j used. subst (λ (l : List Range). Contains l (range_of (slot_at (set slots place new) j))) (sym gone) (elim (cases_eq j place) [
-          | inl here ↦ subst (λ (t : Slot). Contains (without old.offset b) (range_of t)) (sym (ap (slot_at (set slots place new)) here ∙ new_at))
-              (without_keeps old.offset (range_of new) b starts_differ there_new)
+        each = λ j used. subst (λ (l : List Range). Contains l (range_of_slot (slot_at (set slots place new) j))) (sym gone) (elim (cases_eq j place) [
+          | inl here ↦ subst (λ (t : Slot). Contains (without old.offset b) (range_of_slot t)) (sym (ap (slot_at (set slots place new)) here ∙ new_at))
+              (without_keeps old.offset (range_of_slot new) b starts_differ there_new)
           | inr other ↦
               (let was : is_used (slot_at slots j) ≡ true = ap is_used (sym (stays j other)) ∙ used in
-              let there : Contains b (range_of (slot_at slots j)) = subst (λ (l : List Range). Contains l (range_of (slot_at slots j))) (sym added)
-              (with_range_keeps (range_of new) (range_of (slot_at slots j)) a (are.each j was)) in
-              subst (λ (t : Slot). Contains (without old.offset b) (range_of t)) (sym (stays j other))
-              (without_keeps old.offset (range_of (slot_at slots j)) b (other_start pages slots sound j place other was first.used) there))
+              let there : Contains b (range_of_slot (slot_at slots j)) = subst (λ (l : List Range). Contains l (range_of_slot (slot_at slots j))) (sym added)
+              (with_range_keeps (range_of_slot new) (range_of_slot (slot_at slots j)) a (are.each j was)) in
+              subst (λ (t : Slot). Contains (without old.offset b) (range_of_slot t)) (sym (stays j other))
+              (without_keeps old.offset (range_of_slot (slot_at slots j)) b (other_start pages slots sound j place other was first.used) there))
         ]);
         only = λ x there.
             let w = without_only old.offset x b (subst (λ (l : List Range). Contains l x) gone there) in
-            elim (with_range_only (range_of new) x a (subst (λ (l : List Range). Contains l x) added w.1)) [
-              | inl here ↦ record { at = place; used = ap is_used new_at ∙ used_new; is = here ∙ ap range_of (sym new_at) }
+            elim (with_range_only (range_of_slot new) x a (subst (λ (l : List Range). Contains l x) added w.1)) [
+              | inl here ↦ record { at = place; used = ap is_used new_at ∙ used_new; is = here ∙ ap range_of_slot (sym new_at) }
               | inr was ↦
                   (let u = are.only x was in
                   let other : u.at ≢ place = λ here. w.0 (ap (λ (r : Range). r.start) u.is ∙ ap (λ (i : ℕ). (slot_at slots i).offset) here) in
-                  record { at = u.at; used = ap is_used (stays u.at other) ∙ u.used; is = u.is ∙ ap range_of (sym (stays u.at other)) })
+                  record { at = u.at; used = ap is_used (stays u.at other) ∙ u.used; is = u.is ∙ ap range_of_slot (sym (stays u.at other)) })
             ];
       }
 
@@ -100,7 +101,7 @@ pub record Planned (slots : List Slot) (end : ℕ) (moves : List Move) (now : Li
 
 pub planning_more : (slots : List Slot) (end : ℕ) (moves : List Move) (now : List Slot) (pages place to : ℕ) → AreSound pages (2 ^ 28) now
     → AreMoves slots end moves → now ≡ after_moves slots moves → IsFirstBefore now end place → IsLeast now (slot_at now place).count end to
-    → Planned slots end (moves ++ (record { place = place; to = to }) ∷ []) (set now place (moved (slot_at now place) to))
+    → Planned slots end (moves ++ (record { place = place; to = to }) ∷ []) (set now place (moved_slot (slot_at now place) to))
 planning_more slots end moves now pages place to sound are slots_are first least =
     let m : Move = record { place = place; to = to } in
     let next : IsNextMove now end m = next_move now pages end place to sound first least in
@@ -111,20 +112,20 @@ planning_more slots end moves now pages place to sound are slots_are first least
 
 -- a range that is moved after the block no longer begins before it
 pub one_less : (slots : List Slot) (end place to : ℕ) → IsFirstBefore slots end place → end ≤ to
-    → count_before end (set slots place (moved (slot_at slots place) to)) + 1 ≡ count_before end slots
+    → count_before end (set slots place (moved_slot (slot_at slots place) to)) + 1 ≡ count_before end slots
 unfolding count_before
 one_less slots end place to first far =
     let was : one_before end (slot_at slots place) ≡ 1 = (let used = first.used in let before = first.before in grind (arith, nat_tests)) in
-    let now : one_before end (moved (slot_at slots place) to) ≡ 0 = grind (arith, nat_tests) in
-    omega (arith, sum_by-set (one_before end) slots place (moved (slot_at slots place) to) free first.below, was, now)
+    let now : one_before end (moved_slot (slot_at slots place) to) ≡ 0 = grind (arith, nat_tests) in
+    omega (arith, sum_by-set (one_before end) slots place (moved_slot (slot_at slots place) to) free first.below, was, now)
 
 pub fewer_before : (slots : List Slot) (end place to : ℕ) → IsFirstBefore slots end place → end ≤ to
-    → count_before end (set slots place (moved (slot_at slots place) to)) < count_before end slots
+    → count_before end (set slots place (moved_slot (slot_at slots place) to)) < count_before end slots
 fewer_before slots end place to first far = omega (arith, one_less slots end place to first far)
 
 pub count_after : (slots : List Slot) (moves : List Move) → length (after_moves slots moves) ≡ length slots
 count_after slots [] = refl
-count_after slots (m ∷ moves) = count_after (after_move slots m) moves ∙ length-set slots m.place (moved (slot_at slots m.place) m.to)
+count_after slots (m ∷ moves) = count_after (after_move slots m) moves ∙ length-set slots m.place (moved_slot (slot_at slots m.place) m.to)
 
 pub page_count : (slots : List Slot) (end : ℕ) (page : Page) → IsPlanning slots end page → length page.slots.items ≡ length slots
 page_count slots end page planning = ap length planning.slots_are ∙ count_after slots page.moves.items

@@ -1,7 +1,7 @@
 -- Nothing is wrong with a table exactly where each slot is right by itself and any two used ones are apart.
 use Rattle.std.proofs.Common.{◌≡◌, inl, inr, ℕ, zero, suc, ◌+◌, ◌-◌, ◌<◌, List, [], ◌∷◌, length, take, map, true, false, Option, Some, None, refl, sym, ap, ◌∙◌, subst, arith, codes}
-use Rattle.rpm_pkgdb.proofs.Vocabulary.{AreApart, AreSound, begins, blank, damage_at, end_of, fault_at, first, free, has_number, is_used, IsPlaced, list_any}
-use Rattle.rpm_pkgdb.proofs.Vocabulary.{meets, option_map, option_or, own_reason, range_with_len, shared_reason, Slot, slot_at, slot_fault, slot_of, slots_in}
+use Rattle.rpm_pkgdb.proofs.Vocabulary.{AreSlotsApart, AreSound, begins_with_word, blank, damage_at, end_of, damage_of_slot, first, free, has_number, is_used, IsPlaced, list_any}
+use Rattle.rpm_pkgdb.proofs.Vocabulary.{slots_meet, option_map, option_or, own_reason, range_with_len, shared_reason, Slot, slot_at, slot_fault, slot_of, slots_in}
 use Rattle.rpm_pkgdb.proofs.Vocabulary.{table_fault, unit_at, Units, used_reason}
 use Rattle.std.proofs.lemmas.List.{get_or-take, get_or_past, length-take}
 use Rattle.std.proofs.lemmas.Bool.{cases_lt}
@@ -49,19 +49,20 @@ used_below slots k used = elim (cases_lt k (length slots)) [
   | inr past ↦ absurd (let e : is_used (slot_at slots k) ≡ is_used free = ap is_used (get_or_past slots k free past) in cc)
 ]
 
-pub apart_swapped : (s t : Slot) → AreApart s t → AreApart t s
+pub apart_swapped : (s t : Slot) → AreSlotsApart s t → AreSlotsApart t s
 apart_swapped s t apart = record { numbers = λ same. apart.numbers (sym same); blocks = elim apart.blocks [ inl l ↦ inr l | inr r ↦ inl r ] }
 
 -- ---- one slot
 
-pub begins_from : (pages units : ℕ) (unit : List ℕ) → own_reason pages units unit ≡ None → begins (codes "Slot") unit ≡ true
+pub begins_from : (pages units : ℕ) (unit : List ℕ) → own_reason pages units unit ≡ None → begins_with_word (codes "Slot") unit ≡ true
 unfolding own_reason
 begins_from pages units unit none = grind (arith, nat_tests)
 
 used_none : (pages units : ℕ) (s : Slot) → IsPlaced pages units s → used_reason pages units s ≡ None
 used_none pages units s placed = grind (arith, nat_tests)
 
-own_none : (pages units : ℕ) (unit : List ℕ) → begins (codes "Slot") unit ≡ true → (is_used (slot_of unit) ≡ true → IsPlaced pages units (slot_of unit))
+own_none : (pages units : ℕ) (unit : List ℕ) → begins_with_word (codes "Slot") unit ≡ true
+    → (is_used (slot_of unit) ≡ true → IsPlaced pages units (slot_of unit))
     → own_reason pages units unit ≡ None
 unfolding own_reason
 own_none pages units unit magic placed = elim (cases_Bool (is_used (slot_of unit))) [
@@ -70,7 +71,7 @@ own_none pages units unit magic placed = elim (cases_Bool (is_used (slot_of unit
 ]
 
 pub shared_none : (slots : List Slot) (s : Slot) → (is_used s ≡ true → (j : ℕ) → j < length slots → is_used (slot_at slots j) ≡ true
-    → AreApart (slot_at slots j) s) → (is_used s ≡ true → 0 < s.count) → shared_reason slots s ≡ None
+    → AreSlotsApart (slot_at slots j) s) → (is_used s ≡ true → 0 < s.count) → shared_reason slots s ≡ None
 unfolding shared_reason
 shared_none slots s apart some = elim (cases_Bool (is_used s)) [
   | inr unused ↦ rw unused refl
@@ -78,18 +79,18 @@ shared_none slots s apart some = elim (cases_Bool (is_used s)) [
       (let numbers : list_any (has_number s.number) slots ≡ false = no_place (has_number s.number) slots free (λ p.
       let facts = number_facts s.number (slot_at slots p.at) p.holds in
       (apart used p.at p.below facts.used).numbers facts.number) in
-      let blocks : list_any (meets s) slots ≡ false = no_place (meets s) slots free (λ p.
+      let blocks : list_any (slots_meet s) slots ≡ false = no_place (slots_meet s) slots free (λ p.
       let facts = meet_facts s (slot_at slots p.at) p.holds in
       elim (apart used p.at p.below facts.used).blocks [ inl l ↦ omega (arith, facts.left, l) | inr r ↦ omega (arith, facts.right, r) ]) in
       rw (used, numbers, blocks) refl)
 ]
 
 pub apart_from : (slots : List Slot) (s : Slot) (j : ℕ) → shared_reason slots s ≡ None → is_used s ≡ true → j < length slots
-    → is_used (slot_at slots j) ≡ true → AreApart (slot_at slots j) s
+    → is_used (slot_at slots j) ≡ true → AreSlotsApart (slot_at slots j) s
 apart_from slots s j none used below used_j =
     let t = slot_at slots j in
     let number : has_number s.number t ≡ false = none_at (has_number s.number) slots j free (fresh_number slots s none used) below in
-    let meet : meets s t ≡ false = none_at (meets s) slots j free (fresh_blocks slots s none used) below in
+    let meet : slots_meet s t ≡ false = none_at (slots_meet s) slots j free (fresh_blocks slots s none used) below in
     record {
       numbers = λ same. (let has = has_it_from s.number t used_j same in cc);
       blocks = elim (cases_lt s.offset (end_of t)) [
@@ -122,20 +123,20 @@ module _ (pages units : ℕ) (us : Units) where
   length_before k below = omega (arith, count_in (take k us), length-take k us)
 
   faults_none : table_fault pages units us ≡ None → (k : ℕ) → k < length us → slot_fault pages units (before k) (unit_at us k) ≡ None
-  unfolding table_fault fault_at
+  unfolding table_fault damage_of_slot
   faults_none none k below =
-      let at : fault_at pages units us (0 + k) ≡ None = first_none (fault_at pages units us) 0 (length us) none k below in
+      let at : damage_of_slot pages units us (0 + k) ≡ None = first_none (damage_of_slot pages units us) 0 (length us) none k below in
       let e : 0 + k ≡ k = omega arith in
       subst (λ (i : ℕ). slot_fault pages units (slots_in (take i us)) (unit_at us i) ≡ None) e at
 
   none_faults : ((k : ℕ) → k < length us → slot_fault pages units (before k) (unit_at us k) ≡ None) → table_fault pages units us ≡ None
-  unfolding table_fault fault_at
-  none_faults each = none_first (fault_at pages units us) 0 (length us) (λ k below.
+  unfolding table_fault damage_of_slot
+  none_faults each = none_first (damage_of_slot pages units us) 0 (length us) (λ k below.
       let e : k ≡ 0 + k = omega arith in
       subst (λ (i : ℕ). slot_fault pages units (slots_in (take i us)) (unit_at us i) ≡ None) e (each k below))
 
   -- each slot by itself begins as a slot does
-  pub magics : table_fault pages units us ≡ None → (k : ℕ) → k < length us → begins (codes "Slot") (unit_at us k) ≡ true
+  pub magics : table_fault pages units us ≡ None → (k : ℕ) → k < length us → begins_with_word (codes "Slot") (unit_at us k) ≡ true
   magics none k below = begins_from pages units (unit_at us k) (no_own pages units (before k) (unit_at us k) (faults_none none k below))
 
   placed_each : table_fault pages units us ≡ None → (k : ℕ) → is_used (slot_at slots k) ≡ true → IsPlaced pages units (slot_at slots k)
@@ -146,7 +147,7 @@ module _ (pages units : ℕ) (us : Units) where
       (ap is_used (sym is) ∙ used))
 
   apart_below : table_fault pages units us ≡ None → (j k : ℕ) → j < k → is_used (slot_at slots j) ≡ true → is_used (slot_at slots k) ≡ true
-      → AreApart (slot_at slots j) (slot_at slots k)
+      → AreSlotsApart (slot_at slots j) (slot_at slots k)
   apart_below none j k lt used_j used_k =
       let below : k < length us = omega (arith, used_below slots k used_k, count_in us) in
       let is : slot_at slots k ≡ slot_of (unit_at us k) = slot_in us k below in
@@ -155,7 +156,7 @@ module _ (pages units : ℕ) (us : Units) where
       let both =
       apart_from (before k) (slot_of (unit_at us k)) j shared (ap is_used (sym is) ∙ used_k) (omega (arith, length_before k below)) (ap is_used was
       ∙ used_j) in
-      subst (λ (t : Slot). AreApart (slot_at slots j) t) (sym is) (subst (λ (t : Slot). AreApart t (slot_of (unit_at us k))) was both)
+      subst (λ (t : Slot). AreSlotsApart (slot_at slots j) t) (sym is) (subst (λ (t : Slot). AreSlotsApart t (slot_of (unit_at us k))) was both)
 
   pub sound_from : table_fault pages units us ≡ None → AreSound pages units slots
   sound_from none = record {
@@ -166,7 +167,8 @@ module _ (pages units : ℕ) (us : Units) where
     ];
   }
 
-  pub none_from : ((k : ℕ) → k < length us → begins (codes "Slot") (unit_at us k) ≡ true) → AreSound pages units slots → table_fault pages units us ≡ None
+  pub none_from : ((k : ℕ) → k < length us → begins_with_word (codes "Slot") (unit_at us k) ≡ true) → AreSound pages units slots
+      → table_fault pages units us ≡ None
   none_from magic sound = none_faults (λ k below.
       let is : slot_at slots k ≡ slot_of (unit_at us k) = slot_in us k below in
       let placed_here : is_used (slot_of (unit_at us k)) ≡ true → IsPlaced pages units (slot_of (unit_at us k)) =
@@ -176,6 +178,6 @@ module _ (pages units : ℕ) (us : Units) where
       let lt : j < k = omega (arith, length_before k below) in
       let was : slot_at (before k) j ≡ slot_at slots j = before_at j k lt below in
       let both = sound.apart j k (omega arith) (ap is_used (sym was) ∙ used_j) (ap is_used is ∙ used) in
-      subst (λ (t : Slot). AreApart (slot_at (before k) j) t) is (subst (λ (t : Slot). AreApart t (slot_at slots k)) (sym was) both))
+      subst (λ (t : Slot). AreSlotsApart (slot_at (before k) j) t) is (subst (λ (t : Slot). AreSlotsApart t (slot_at slots k)) (sym was) both))
       (λ used. (placed_here used).some) in
       neither_fault (damage_at (2 + length (before k))) (own_reason pages units (unit_at us k)) (shared_reason (before k) (slot_of (unit_at us k))) own shared)

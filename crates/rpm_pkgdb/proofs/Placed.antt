@@ -3,7 +3,7 @@ use Rattle.std.proofs.Common.{◌≡◌, ℕ, zero, suc, ◌<◌, List, [], ◌�
 use Rattle.std.proofs.lemmas.Bool.{cases_Bool}
 use Rattle.rpm_pkgdb.proofs.Vocabulary.{blank_store, Damage, free, has_number, head_reason, is_blank, is_used, IsPlaced, list_any, made_or_damaged}
 use Rattle.rpm_pkgdb.proofs.Vocabulary.{made_store, option_or, own_reason, Reason, run, Slot, slot_at, slot_fault, slot_of, slot_with, slots_in, Store, store}
-use Rattle.rpm_pkgdb.proofs.Vocabulary.{table, table_fault, table_is_run, unit_at, Units, unless, word}
+use Rattle.rpm_pkgdb.proofs.Vocabulary.{slot_units, table_fault, table_is_run, unit_at, Units, unless, word}
 use Rattle.rpm_pkgdb.proofs.Facts.{number_facts}
 use Rattle.rpm_pkgdb.proofs.Kept.{find_none, find_some}
 use Rattle.rpm_pkgdb.proofs.Sound.{placed_slot, no_own}
@@ -57,10 +57,10 @@ placed_in_table pages units n us s none found =
 -- a store that is made, without damage
 record Made (file : Units) (st : Store) : Type 0 where
   pages : ℕ
-  sound : table_fault pages (length file) (table pages file) ≡ None
-  slots : st.slots ≡ slots_in (table pages file)
+  sound : table_fault pages (length file) (slot_units pages file) ≡ None
+  slots : st.slots ≡ slots_in (slot_units pages file)
 
-made_from : (pages : ℕ) (file : Units) (st : Store) (fault : Option Damage) → table_fault pages (length file) (table pages file) ≡ fault
+made_from : (pages : ℕ) (file : Units) (st : Store) (fault : Option Damage) → table_fault pages (length file) (slot_units pages file) ≡ fault
     → unless fault (made_store pages file) ≡ Ok st → Made file st
 made_from pages file st None e is =
     let same : made_store pages file ≡ st = cc in
@@ -70,7 +70,7 @@ made_from pages file st (Some d) e is = absurd cc
 made_or : (file : Units) (st : Store) (reason : Option Reason) → made_or_damaged reason file ≡ Ok st → Made file st
 made_or file st (Some r) is = absurd cc
 made_or file st None is =
-    made_from (word 3 (unit_at file 0)) file st (table_fault (word 3 (unit_at file 0)) (length file) (table (word 3 (unit_at file 0)) file)) refl is
+    made_from (word 3 (unit_at file 0)) file st (table_fault (word 3 (unit_at file 0)) (length file) (slot_units (word 3 (unit_at file 0)) file)) refl is
 
 ok_same : (x y : Store) (r : Result Store Damage) → r ≡ Ok x → r ≡ Ok y → x ≡ y
 ok_same x y r e f = cc
@@ -91,5 +91,5 @@ lies file st n s is found = elim (cases_Bool (is_blank file)) [
   | inr other ↦
       (let said : made_or_damaged (head_reason (length file) (unit_at file 0)) file ≡ Ok st = rw other at is in
       let m = made_or file st (head_reason (length file) (unit_at file 0)) said in
-      record { pages = m.pages; placed = placed_in_table m.pages (length file) n (table m.pages file) s m.sound (ap (slot_with n) (sym m.slots) ∙ found) })
+      record { pages = m.pages; placed = placed_in_table m.pages (length file) n (slot_units m.pages file) s m.sound (ap (slot_with n) (sym m.slots) ∙ found) })
 ]

@@ -1,6 +1,6 @@
 -- The rule of places at work on packages of 80 bytes, which take seven blocks each.
 use Rattle.std.proofs.Common.{◌≡◌, ℕ, List, [], ◌∷◌, ◌++◌, replicate, false, Some, None, refl}
-use Rattle.rpm_pkgdb.proofs.Vocabulary.{erased, first_fit, first_free, free, freed, page_moves, placed, placed_in, put_in, Slot, Store}
+use Rattle.rpm_pkgdb.proofs.Vocabulary.{without_number, first_fit, first_free, free, freed_slots, page_moves, placement, placed_in, put_in, Slot, Store}
 
 slot : ℕ → ℕ → Slot
 slot number start = record { number = number; offset = start; count = 7 }
@@ -13,10 +13,10 @@ three : List Slot
 three = slot 1 256 ∷ slot 2 263 ∷ slot 3 270 ∷ []
 
 third : put_in None 80 (store 3 (slot 1 256 ∷ slot 2 263 ∷ free ∷ [])) ≡ Some (store 4 three)
-unfolding store slot three placed placed_in page_moves first_free first_fit
+unfolding store slot three placement placed_in page_moves first_free first_fit
 third = refl
 
 -- number 2 is erased, and the next one takes its slot and its blocks
-again : put_in None 80 (erased 2 (store 4 three)) ≡ Some (store 5 (slot 1 256 ∷ slot 4 263 ∷ slot 3 270 ∷ []))
-unfolding store slot three freed placed placed_in page_moves first_free first_fit
+again : put_in None 80 (without_number 2 (store 4 three)) ≡ Some (store 5 (slot 1 256 ∷ slot 4 263 ∷ slot 3 270 ∷ []))
+unfolding store slot three freed_slots placement placed_in page_moves first_free first_fit
 again = refl

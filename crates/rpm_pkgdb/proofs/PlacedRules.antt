@@ -2,8 +2,8 @@
 use Rattle.std.proofs.Common.{◌≡◌, ℕ, ◌*◌, ◌≤◌, List, length, true, false, Bool, Option, Some, None, is_none, if◌then◌else◌, refl, sym, ap, ◌∙◌, subst, arith}
 use Rattle.std.specs.Prelude.{IfSome}
 use Rattle.rpm_pkgdb.proofs.Vocabulary.{after_moves, AreAllUsed, blocks_for, CantMove, first_free, FitsNowhere, grown, has_number, IsFirstBefore, IsFirstFree}
-use Rattle.rpm_pkgdb.proofs.Vocabulary.{IsFor, IsFull, IsKept, IsLeast, IsPlan, IsTarget, Move, moves_of, NeedsPage, next_end, next_number, NoMove, NoRoom}
-use Rattle.rpm_pkgdb.proofs.Vocabulary.{option_and_then, option_map, page_moves, Pairs, placed, placed_in, Placement, placement_of, Plan, position_or_len}
+use Rattle.rpm_pkgdb.proofs.Vocabulary.{IsFor, IsStoreFull, IsKept, IsLeast, IsPlan, IsTarget, Move, moves_of, NeedsPage, next_end, next_number, NoMove, NoRoom}
+use Rattle.rpm_pkgdb.proofs.Vocabulary.{option_and_then, option_map, page_moves, Pairs, placement, placed_in, Placement, placement_of, Plan, position_or_len}
 use Rattle.rpm_pkgdb.proofs.Vocabulary.{replaced_by, slot_at, Store, Target}
 use Rattle.rpm_pkgdb.proofs.Pairwise.{used_below}
 use Rattle.rpm_pkgdb.proofs.RangeLaws.{other_start}
@@ -44,8 +44,8 @@ module _ (numbers : Pairs) (v : Store) (kept : IsKept numbers v.pages v.slots) (
 
   new_at : (number place start size : ℕ) (moves : Option (List Move)) → NeedsPage v true moves → number ≡ next_number v
       → IsFirstFree (grown moves v).slots place → IsLeast (grown moves v).slots (blocks_for size) (256 * (grown moves v).pages) start
-      → placed None size v ≡ Some (made number place start size true moves)
-  unfolding placed
+      → placement None size v ≡ Some (made number place start size true moves)
+  unfolding placement
   new_at number place start size moves needs next first least =
       ap (option_and_then (placed_in v (next_number v) (first_free v.slots) size true)) (needs_moves v moves needs)
       ∙ found_in v (next_number v) (first_free v.slots) start size true moves least
@@ -53,15 +53,15 @@ module _ (numbers : Pairs) (v : Store) (kept : IsKept numbers v.pages v.slots) (
       ∙ ap (λ (p : ℕ). Some (made number p start size true moves)) (place_of_new moves place needs first)
 
   held_at : (number place start size : ℕ) → has_number number (slot_at v.slots place) ≡ true
-      → IsLeast v.slots (blocks_for size) (256 * v.pages) start → placed (Some number) size v ≡ Some (made number place start size false None)
-  unfolding placed
+      → IsLeast v.slots (blocks_for size) (256 * v.pages) start → placement (Some number) size v ≡ Some (made number place start size false None)
+  unfolding placement
   held_at number place start size has least =
       ap (λ (p : ℕ). placed_in v number p size false None) (number_at v.pages v.slots kept.sound number place has)
       ∙ found_in v number place start size false None least
 
   by_target : (n : Option ℕ) (t : Target) (moves : Option (List Move)) → NeedsPage v t.is_new moves → (t.is_new ≡ true → t.number ≡ next_number v)
       → IsTarget (grown moves v) t → t.is_new ≡ is_none n → IfSome n (λ m. t.number ≡ m)
-      → placed n t.length v ≡ Some (record { target = t; moves = moves })
+      → placement n t.length v ≡ Some (record { target = t; moves = moves })
   by_target None t moves needs next is new same =
       let all = subst (λ (b : Bool). NeedsPage v b moves) new needs in
       new_at t.number t.place t.start t.length moves all (next new) (is.new new).1 is.start
@@ -69,15 +69,15 @@ module _ (numbers : Pairs) (v : Store) (kept : IsKept numbers v.pages v.slots) (
   by_target (Some m) t moves needs next is held same =
       let none : moves ≡ None = none_for v t.is_new moves needs held in
       let here : IsTarget v t = subst (λ (o : Option (List Move)). IsTarget (grown o v) t) none is in
-      ap (λ (k : ℕ). placed (Some k) t.length v) (sym same)
+      ap (λ (k : ℕ). placement (Some k) t.length v) (sym same)
       ∙ held_at t.number t.place t.start t.length (here.held held) here.start
       ∙ ap (λ (b : Bool). Some (made t.number t.place t.start t.length b None)) (sym held)
       ∙ ap (λ (o : Option (List Move)). Some (made t.number t.place t.start t.length t.is_new o)) (sym none)
 
   -- a plan is what the rule of places says
-  pub plan_placed : (n : Option ℕ) (size : ℕ) (plan : Plan) → IsPlan v plan → IsFor n size plan → placed n size v ≡ Some (placement_of plan)
+  pub plan_placed : (n : Option ℕ) (size : ℕ) (plan : Plan) → IsPlan v plan → IsFor n size plan → placement n size v ≡ Some (placement_of plan)
   plan_placed n size plan is for =
-      ap (λ (k : ℕ). placed n k v) (sym for.length_is)
+      ap (λ (k : ℕ). placement n k v) (sym for.length_is)
       ∙ by_target n plan.target (moves_of plan.page) is.page is.number is.target for.new for.number
 
   own_new : (b : Bool) (number : ℕ) → b ≡ is_none (if b then None else Some number)
@@ -88,7 +88,7 @@ module _ (numbers : Pairs) (v : Store) (kept : IsKept numbers v.pages v.slots) (
   own_number true number = tt
   own_number false number = refl
 
-  pub own_placed : (plan : Plan) → IsPlan v plan → placed (replaced_by plan.target) plan.target.length v ≡ Some (placement_of plan)
+  pub own_placed : (plan : Plan) → IsPlan v plan → placement (replaced_by plan.target) plan.target.length v ≡ Some (placement_of plan)
   own_placed plan is =
       by_target (replaced_by plan.target) plan.target (moves_of plan.page) is.page is.number is.target
       (own_new plan.target.is_new plan.target.number) (own_number plan.target.is_new plan.target.number)
@@ -113,8 +113,8 @@ module _ (numbers : Pairs) (v : Store) (kept : IsKept numbers v.pages v.slots) (
       omega arith) stuck.nowhere))
 
   -- a store is full only where the rule of places finds none
-  pub full_placed : (n : Option ℕ) (size : ℕ) → IsFull v (is_none n) size → placed n size v ≡ None
-  unfolding placed
+  pub full_placed : (n : Option ℕ) (size : ℕ) → IsStoreFull v (is_none n) size → placement n size v ≡ None
+  unfolding placement
   full_placed None size (NoRoom moves needs nowhere) =
       ap (option_and_then (placed_in v (next_number v) (first_free v.slots) size true)) (needs_moves v moves needs)
       ∙ nowhere_in v (next_number v) (first_free v.slots) size true moves nowhere

@@ -1,6 +1,6 @@
 -- Which slot has a number, where slots are sound or one is set.
 use Rattle.std.proofs.Common.{◌≡◌, inl, inr, ℕ, zero, suc, ◌<◌, List, [], ◌∷◌, length, get_or, true, false, Bool, Some, None, refl, sym, ap, ◌∙◌, arith, set, map, length-set}
-use Rattle.rpm_pkgdb.proofs.Vocabulary.{AreSound, find, free, freed, freed_slot, has_number, list_any, Slot, slot_at, slot_with}
+use Rattle.rpm_pkgdb.proofs.Vocabulary.{AreSound, find, free, freed_slots, freed_slot, has_number, list_any, Slot, slot_at, slot_with}
 use Rattle.std.proofs.lemmas.List.{get_or_default, same_lists}
 use Rattle.std.proofs.lemmas.Bool.{cases_eq}
 use Rattle.rpm_pkgdb.proofs.Facts.{cases_Bool, number_facts, none_at}
@@ -86,8 +86,8 @@ module _ (pages units : ℕ) (slots : List Slot) (sound : AreSound pages units s
       ])
 
   -- the slot of a number is set free at its place
-  pub freed_is_set : (n k : ℕ) → has_number n (slot_at slots k) ≡ true → freed n slots ≡ set slots k free
-  unfolding freed
+  pub freed_is_set : (n k : ℕ) → has_number n (slot_at slots k) ≡ true → freed_slots n slots ≡ set slots k free
+  unfolding freed_slots
   freed_is_set n k has =
       same_lists (map (freed_slot n) slots) (set slots k free) (length_map slots ∙ sym (length-set slots k free)) (λ j d below.
       let lt : j < length slots = omega (arith, length_map slots) in

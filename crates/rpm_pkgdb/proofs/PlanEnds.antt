@@ -1,6 +1,6 @@
 -- Plans with and without a slot page.
 use Rattle.std.proofs.Common.{◌≡◌, ℕ, ◌+◌, ◌*◌, ◌/◌, ◌<◌, ◌≤◌, List, length, true, false, Bool, Some, None, refl, sym, ap, ◌∙◌, subst, arith}
-use Rattle.rpm_pkgdb.proofs.Vocabulary.{AreAllUsed, blocks_for, CanAdd, CantMove, FitsNowhere, grown, has_number, HoldsPage, is_used, IsFirstFree, IsFull}
+use Rattle.rpm_pkgdb.proofs.Vocabulary.{AreAllUsed, blocks_for, CanAdd, CantMove, FitsNowhere, grown, has_number, HoldsPage, is_used, IsFirstFree, IsStoreFull}
 use Rattle.rpm_pkgdb.proofs.Vocabulary.{IsKept, IsLeast, IsPackageNumber, IsPlan, NeedsPage, next_end, next_number, NoMove, NoRoom, Page, Pairs, Slot}
 use Rattle.rpm_pkgdb.proofs.Vocabulary.{slot_at, Store}
 use Rattle.rpm_pkgdb.proofs.PlannedLaws.{same_next, first_behind}
@@ -36,7 +36,7 @@ module _ (v : Store) (number place size : ℕ) (is_new : Bool) (new : is_new ≡
     };
   }
 
-  pub there_full : (pages : ℕ) → pages ≡ v.pages → FitsNowhere v.slots ((size + 43) / 16) (256 * pages) → IsFull v is_new size
+  pub there_full : (pages : ℕ) → pages ≡ v.pages → FitsNowhere v.slots ((size + 43) / 16) (256 * pages) → IsStoreFull v is_new size
   there_full pages same nowhere =
       NoRoom None (some_free v is_new place (λ is. (new is).1))
       (subst (λ (n : ℕ). FitsNowhere v.slots (blocks_for size) (256 * n)) same
@@ -66,7 +66,7 @@ module _ (v : Store) (numbers : Pairs) (kept : IsKept numbers v.pages v.slots) (
         };
       }
 
-  pub behind_full : FitsNowhere page.slots.items ((size + 43) / 16) (256 * (pages + 1)) → IsFull v true size
+  pub behind_full : FitsNowhere page.slots.items ((size + 43) / 16) (256 * (pages + 1)) → IsStoreFull v true size
   behind_full nowhere =
       let all = (grown (Some page.moves.items) v).slots in
       NoRoom (Some page.moves.items) (refl, can)
@@ -74,5 +74,5 @@ module _ (v : Store) (numbers : Pairs) (kept : IsKept numbers v.pages v.slots) (
       (subst (λ (n : ℕ). FitsNowhere all n (256 * (pages + 1))) (sym (blocks_are size))
       (subst (λ (l : List Slot). FitsNowhere l ((size + 43) / 16) (256 * (pages + 1))) holds.0 nowhere)))
 
-pub stuck_full : (v : Store) (size : ℕ) → AreAllUsed v.slots → CantMove v.slots (next_end v) → IsFull v true size
+pub stuck_full : (v : Store) (size : ℕ) → AreAllUsed v.slots → CantMove v.slots (next_end v) → IsStoreFull v true size
 stuck_full v size all stuck = NoMove refl all stuck

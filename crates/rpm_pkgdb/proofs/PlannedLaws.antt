@@ -5,8 +5,8 @@ use Rattle.std.proofs.lemmas.Bool.{cases_eq}
 use Rattle.std.proofs.lemmas.Bool.Decides.{nat_tests}
 use Rattle.std.proofs.lemmas.List.{length-replicate}
 use Rattle.rpm_pkgdb.proofs.Vocabulary.{after_move, after_moves, AreMoves, AreRangesOf, AreSound, CanAdd, CanGrow, CanGrowBy, find_in, free, greatest_number}
-use Rattle.rpm_pkgdb.proofs.Vocabulary.{grown, is_used, IsFirstBefore, IsFirstFree, IsKept, IsNextMove, IsPackageNumber, Move, moved, NeedsPage, next_end}
-use Rattle.rpm_pkgdb.proofs.Vocabulary.{next_number, Pairs, Range, range_of, Slot, slot_at, Store, with_moves}
+use Rattle.rpm_pkgdb.proofs.Vocabulary.{grown, is_used, IsFirstBefore, IsFirstFree, IsKept, IsNextMove, IsPackageNumber, Move, moved_slot, NeedsPage, next_end}
+use Rattle.rpm_pkgdb.proofs.Vocabulary.{next_number, Pairs, Range, range_of_slot, Slot, slot_at, Store, with_moves}
 use Rattle.rpm_pkgdb.proofs.Facts.{number_facts, has_it_from}
 use Rattle.rpm_pkgdb.proofs.Pairwise.{used_below}
 use Rattle.rpm_pkgdb.proofs.ClearLaws.{set_here, set_other}
@@ -35,7 +35,7 @@ alike_then : (s t u : Slot) → AreAlike s t → AreAlike t u → AreAlike s u
 alike_then s t u a b = record { used = a.used ∙ b.used; number = a.number ∙ b.number }
 
 module _ (pages end : ℕ) (some : 1 ≤ pages) (low : 256 * pages ≤ end) where
-  used_to : (s : Slot) (to : ℕ) → end ≤ to → is_used (moved s to) ≡ true
+  used_to : (s : Slot) (to : ℕ) → end ≤ to → is_used (moved_slot s to) ≡ true
   used_to s to from = let far : to ≢ 0 = omega arith in grind (arith, nat_tests)
 
   module _ (slots : List Slot) (sound : AreSound pages (2 ^ 28) slots) (m : Move) (next : IsNextMove slots end m) where
@@ -45,7 +45,7 @@ module _ (pages end : ℕ) (some : 1 ≤ pages) (low : 256 * pages ≤ end) wher
     pub move_alike : (j : ℕ) → AreAlike (slot_at (after_move slots m) j) (slot_at slots j)
     move_alike j =
         let below = used_below slots m.place next.used in
-        let s : Slot = moved (slot_at slots m.place) m.to in
+        let s : Slot = moved_slot (slot_at slots m.place) m.to in
         elim (cases_eq j m.place) [
           | inl here ↦
               (let now : slot_at (after_move slots m) j ≡ s = ap (slot_at (after_move slots m)) here ∙ set_here pages (2 ^ 28) slots sound m.place below s in
@@ -138,11 +138,11 @@ module _ (numbers : Pairs) (v : Store) (kept : IsKept numbers v.pages v.slots) (
   pub ranges_behind : (ranges : List Range) → AreRangesOf ranges slots → AreRangesOf ranges all
   ranges_behind ranges are = record {
     each = λ k used. (let was = still_used slots k used in
-        subst (λ (t : Slot). Contains ranges (range_of t)) (sym was.1) (are.each k (ap is_used (sym was.1) ∙ used)));
+        subst (λ (t : Slot). Contains ranges (range_of_slot t)) (sym was.1) (are.each k (ap is_used (sym was.1) ∙ used)));
     only = λ x there.
         let u = are.only x there in
         let e : slot_at all u.at ≡ slot_at slots u.at = at_front slots u.at (used_below slots u.at u.used) in
-        record { at = u.at; used = ap is_used e ∙ u.used; is = u.is ∙ ap range_of (sym e) };
+        record { at = u.at; used = ap is_used e ∙ u.used; is = u.is ∙ ap range_of_slot (sym e) };
   }
 
   pub all_kept : IsKept numbers (v.pages + 1) all

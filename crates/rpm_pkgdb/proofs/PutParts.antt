@@ -2,13 +2,13 @@
 use Rattle.std.proofs.Common.{◌≡◌, inl, inr, ℕ, zero, suc, ◌+◌, ◌-◌, ◌*◌, ◌/◌, ◌%◌, ◌≤◌, List, [], ◌∷◌, ◌++◌, length, take, drop, refl, sym, ap, ◌∙◌, arith, length-append, length-drop}
 use Rattle.std.proofs.lemmas.Bool.{cases_lt}
 use Rattle.std.proofs.lemmas.List.{get_or_append_left, get_or-append_right, take-append-le, drop-append-le, nil_from_length}
-use Rattle.rpm_pkgdb.proofs.Vocabulary.{blank, cut_up, length-put, put, put_after, put_before, put_inside, same_units, unit_at, Units, units_of}
+use Rattle.rpm_pkgdb.proofs.Vocabulary.{blank, cut_up, length-put, with_units, put_after, put_before, put_inside, same_units, unit_at, Units, units_of}
 
 module _ (at : ℕ) (us vs file : Units) where
   abbrev first : Units
-  first = put at us file
+  first = with_units at us file
 
-  at_each : (i : ℕ) → unit_at (put (at + length us) vs first) i ≡ unit_at (put at (us ++ vs) file) i
+  at_each : (i : ℕ) → unit_at (with_units (at + length us) vs first) i ≡ unit_at (with_units at (us ++ vs) file) i
   at_each i =
       let long = length-append us vs in
       elim (cases_lt i at) [
@@ -21,29 +21,29 @@ module _ (at : ℕ) (us vs file : Units) where
               ∙ put_inside at us file k (omega arith)
               ∙ sym (get_or_append_left us vs blank k (omega arith))
               ∙ sym (put_inside at (us ++ vs) file k (omega arith))
-              ∙ ap (unit_at (put at (us ++ vs) file)) (omega arith))
+              ∙ ap (unit_at (with_units at (us ++ vs) file)) (omega arith))
           | inr past ↦ elim (cases_lt i (at + length us + length vs)) [
             | inl inside ↦
                 (let k = i - (at + length us) in
-                ap (unit_at (put (at + length us) vs first)) (omega arith)
+                ap (unit_at (with_units (at + length us) vs first)) (omega arith)
                 ∙ put_inside (at + length us) vs first k (omega arith)
                 ∙ ap (unit_at vs) (omega arith)
                 ∙ sym (get_or-append_right us vs (length us) (length us + k) blank refl (omega arith))
                 ∙ sym (put_inside at (us ++ vs) file (length us + k) (omega arith))
-                ∙ ap (unit_at (put at (us ++ vs) file)) (omega arith))
+                ∙ ap (unit_at (with_units at (us ++ vs) file)) (omega arith))
             | inr after ↦ put_after (at + length us) vs first i after ∙ put_after at us file i past ∙ sym (put_after at (us ++ vs) file i (omega arith))
           ]
         ]
       ]
 
-  pub put_append : put (at + length us) vs first ≡ put at (us ++ vs) file
+  pub put_append : with_units (at + length us) vs first ≡ with_units at (us ++ vs) file
   put_append =
-      same_units (put (at + length us) vs first) (put at (us ++ vs) file)
+      same_units (with_units (at + length us) vs first) (with_units at (us ++ vs) file)
       (omega (arith, length-append us vs, length-put (at + length us) vs first, length-put at us file, length-put at (us ++ vs) file)) at_each
 
 -- a write of nothing inside the file
-pub put_nothing : (at : ℕ) (file : Units) → at ≤ length file → put at [] file ≡ file
-put_nothing at file le = same_units (put at [] file) file (omega (arith, length-put at [] file)) (λ i. elim (cases_lt i at) [
+pub put_nothing : (at : ℕ) (file : Units) → at ≤ length file → with_units at [] file ≡ file
+put_nothing at file le = same_units (with_units at [] file) file (omega (arith, length-put at [] file)) (λ i. elim (cases_lt i at) [
   | inl below ↦ put_before at [] file i below
   | inr from ↦ put_after at [] file i (omega arith)
 ])

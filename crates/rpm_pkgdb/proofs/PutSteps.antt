@@ -2,7 +2,7 @@
 use Rattle.std.proofs.Common.{◌≡◌, ◌≢◌, ◌⊎◌, inl, inr, set, ℕ, ◌+◌, ◌*◌, ◌^◌, ◌<◌, ◌≤◌, List, length, true, false, Option, Some, sym, ap, ◌∙◌, subst, arith}
 use Rattle.std.specs.FinMap as finite
 use Rattle.rpm_pkgdb.proofs.Vocabulary.{AreFreed, blank, BlobMap, blobs, blocks_for, CanPut, end_of, field_after, free, grown, has_number, is_used, IsKept}
-use Rattle.rpm_pkgdb.proofs.Vocabulary.{IsPlan, KeepsBlank, Move, moves_of, next_field, Pairs, Plan, PutsTo, Slot, slot_at, slot_for, StandsFor, Store}
+use Rattle.rpm_pkgdb.proofs.Vocabulary.{IsPlan, KeepsBlank, Move, moves_of, next_field, Pairs, Plan, PutsTo, Slot, slot_at, slot_for, Represents, Store}
 use Rattle.rpm_pkgdb.proofs.Vocabulary.{unit_at, Units}
 use Rattle.std.proofs.lemmas.Bool.Decides.{nat_tests}
 use Rattle.rpm_pkgdb.proofs.Facts.{cases_Bool}
@@ -52,9 +52,9 @@ module _ (v : Store) (plan : Plan) (is : IsPlan v plan) (made : 1 ≤ v.pages) w
     pub puts_from : (F0 F1 image : Units) → blobs F1 after ≡ blobs F0 v → PutsTo after plan.target blob F1 image → PutsTo v plan.target blob F0 image
     puts_from F0 F1 image same =
         subst (λ (B : BlobMap). PutsTo after plan.target blob F1 image
-        → StandsFor v.generation v.field B image
-        ⊎ (StandsFor v.generation (field_after (next_field plan.target) v.field) B image
-        ⊎ StandsFor v.generation (field_after (next_field plan.target) v.field) (finite.insert B plan.target.number (Some blob)) image)) same (λ p. p)
+        → Represents v.generation v.field B image
+        ⊎ (Represents v.generation (field_after (next_field plan.target) v.field) B image
+        ⊎ Represents v.generation (field_after (next_field plan.target) v.field) (finite.insert B plan.target.number (Some blob)) image)) same (λ p. p)
 
   far_used : (s : Slot) (pages : ℕ) → 1 ≤ pages → 256 * pages ≤ s.offset → is_used s ≡ true
   far_used s pages some behind = let far : s.offset ≢ 0 = omega arith in grind (arith, nat_tests)

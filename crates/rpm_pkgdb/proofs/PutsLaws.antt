@@ -1,9 +1,9 @@
 -- What a crash leaves while a blob is put.
 use Rattle.std.proofs.Common.{◌≡◌, ◌≢◌, inl, inr, ℕ, zero, suc, ◌+◌, ◌^◌, ◌≤◌, List, [], ◌∷◌, length, true, if◌then◌else◌, Option, None, refl, sym, ap, ◌∙◌, subst, arith, set}
-use Rattle.rpm_pkgdb.proofs.Vocabulary.{After, AreSound, Before, BlobPut, BlobTorn, blocks_for, CanPut, CanSet, end_of, framed, greatest_number, Holds}
-use Rattle.rpm_pkgdb.proofs.Vocabulary.{is_used, IsSlotUnit, IsTarget, Keeps, length-put, next_field, Numbered, put, put_after, put_before, put_inside}
-use Rattle.rpm_pkgdb.proofs.Vocabulary.{SameOutside, Slot, slot_at, slot_for, StandsAs, StandsWith, Store, Target, Torn, unit_at, Units, units_of, WhilePut}
-use Rattle.rpm_pkgdb.proofs.Vocabulary.{with_blob, with_next}
+use Rattle.rpm_pkgdb.proofs.Vocabulary.{After, AreSound, Before, BlobPut, BlobTorn, blocks_for, CanPut, CanSet, end_of, framed, greatest_number, HasUnits}
+use Rattle.rpm_pkgdb.proofs.Vocabulary.{is_used, IsSlotUnit, IsTarget, KeepsStore, length-put, next_field, Numbered, with_units, put_after, put_before, put_inside}
+use Rattle.rpm_pkgdb.proofs.Vocabulary.{SameOutside, Slot, slot_at, slot_for, RepresentsStore, RepresentsPut, Store, Target, Torn, unit_at, Units, units_of, WhilePut}
+use Rattle.rpm_pkgdb.proofs.Vocabulary.{with_put, with_next}
 use Rattle.rpm_pkgdb.proofs.Facts.{cases_Bool, number_facts}
 use Rattle.rpm_pkgdb.proofs.Pairwise.{used_below}
 use Rattle.rpm_pkgdb.proofs.Made.{made}
@@ -69,24 +69,25 @@ module _ (st : Store) (target : Target) (g : ℕ) (old : Slot) (blob : List ℕ)
   mid_value = with_next (next_field target) st
 
   abbrev after : Store
-  after = with_blob target st
+  after = with_put target st
 
   pub us_count : length us ≡ s.count
   us_count = count-framed target.number g blob ∙ sym (ap blocks_for can.length_is)
 
-  can_set : (file : Units) → Keeps file st → (next : Option ℕ) → CanSet (with_next next st) k s
+  can_set : (file : Units) → KeepsStore file st → (next : Option ℕ) → CanSet (with_next next st) k s
   can_set file keeps = plan_set st target can.target_is can.made (length file) (made file st keeps can.made).sound
 
-  can_after : (file : Units) → Keeps file st → CanSet mid_value k s
+  can_after : (file : Units) → KeepsStore file st → CanSet mid_value k s
   can_after file keeps = can_set file keeps (next_field target)
 
-  blob_stands : (file from mid : Units) → StandsAs st file from → SameOutside target.start (blocks_for (length blob)) from mid → StandsAs st file mid
+  blob_stands : (file from mid : Units) → RepresentsStore st file from → SameOutside target.start (blocks_for (length blob)) from mid
+      → RepresentsStore st file mid
   blob_stands file from mid stands same =
       aside_stands st k s (can_set from stands.keeps None) file from mid stands
       (subst (λ (n : ℕ). SameOutside target.start n from mid) (sym (ap blocks_for can.length_is)) same)
 
   -- a crash while the blob is written
-  pub while_blob : (file from image : Units) → StandsAs st file from → BlobTorn target.start (blocks_for (length blob)) (next_field target) from image
+  pub while_blob : (file from image : Units) → RepresentsStore st file from → BlobTorn target.start (blocks_for (length blob)) (next_field target) from image
       → WhilePut st target g blob file image
   while_blob file from image stands torn =
       elim (field_torn_stands st file torn.mid image (next_field target) can.made (blob_stands file from torn.mid stands torn.blocks) torn.field_torn) [
@@ -96,12 +97,12 @@ module _ (st : Store) (target : Target) (g : ℕ) (old : Slot) (blob : List ℕ)
 
   -- once it is written
   pub record Stored (file next : Units) : Type 0 where
-    pub stands : StandsAs mid_value file next
-    pub holds : Holds next target.start us
+    pub stands : RepresentsStore mid_value file next
+    pub holds : HasUnits next target.start us
 
-  pub stored : (file next : Units) → Keeps file st → BlobPut target.start us (next_field target) file next → Stored file next
+  pub stored : (file next : Units) → KeepsStore file st → BlobPut target.start us (next_field target) file next → Stored file next
   stored file next keeps written =
-      let here : StandsAs st file file = record { keeps = keeps; blocks = λ j i used from to. refl } in
+      let here : RepresentsStore st file file = record { keeps = keeps; blocks = λ j i used from to. refl } in
       let mid = written.mid in
       let same : SameOutside target.start (blocks_for (length blob)) file mid = record {
         below = λ i lt. ap (λ (u : Units). unit_at u i) written.blocks ∙ put_before target.start us file i lt;
@@ -122,9 +123,9 @@ module _ (st : Store) (target : Target) (g : ℕ) (old : Slot) (blob : List ℕ)
         };
       }
 
-  module _ (file : Units) (keeps : Keeps file st) (unit : List ℕ) (is : IsSlotUnit unit s) where
+  module _ (file : Units) (keeps : KeepsStore file st) (unit : List ℕ) (is : IsSlotUnit unit s) where
     -- once the slot is written
-    pub slotted : (from : Units) → Stored file from → StandsWith st target g blob file (put (2 + k) (unit ∷ []) from)
+    pub slotted : (from : Units) → Stored file from → RepresentsPut st target g blob file (with_units (2 + k) (unit ∷ []) from)
     slotted from was = set_stands mid_value k s (can_after file keeps) us us_count unit is file from was.stands was.holds
 
     -- a crash while it is written
@@ -135,8 +136,8 @@ module _ (st : Store) (target : Target) (g : ℕ) (old : Slot) (blob : List ℕ)
     ]
 
   -- while the old blocks become zeros, and once they are
-  pub cleared : (file from image : Units) → Keeps file st → StandsWith st target g blob file from → SameOutside old.offset old.count from image
-      → StandsWith st target g blob file image
+  pub cleared : (file from image : Units) → KeepsStore file st → RepresentsPut st target g blob file from → SameOutside old.offset old.count from image
+      → RepresentsPut st target g blob file image
   cleared file from image keeps was same =
       let base = made file st keeps can.made in
       let m = made from after was.keeps can.made in
@@ -152,23 +153,24 @@ module _ (st : Store) (target : Target) (g : ℕ) (old : Slot) (blob : List ℕ)
             same)
       ]
 
-  -- two images with the blob stand for each other
-  pub stand_alike : (file a b : Units) → Keeps file st → StandsWith st target g blob file a → StandsWith st target g blob file b → StandsAs after a b
+  -- two images with the blob represent each other
+  pub stand_alike : (file a b : Units) → KeepsStore file st → RepresentsPut st target g blob file a → RepresentsPut st target g blob file b
+      → RepresentsStore after a b
   stand_alike file a b keeps = set_alike mid_value k s (can_after file keeps) us us_count file a b
 
 -- the three phases, each after the one before
 module _ (st : Store) (target : Target) (g : ℕ) (old : Slot) (blob : List ℕ) (can : CanPut st target g old blob) (unit : List ℕ)
-    (is : IsSlotUnit unit (slot_for target)) (F0 F1 F2 : Units) (keeps : Keeps F0 st)
+    (is : IsSlotUnit unit (slot_for target)) (F0 F1 F2 : Units) (keeps : KeepsStore F0 st)
     (first : BlobPut target.start (units_of (framed target.number g blob)) (next_field target) F0 F1) where
   pub second_phase : (from image : Units) → from ≡ F1 → Torn (2 + target.place) (unit ∷ []) from image → WhilePut st target g blob F0 image
   second_phase from image same torn =
       while_slotted st target g old blob can F0 keeps unit is from image
       (subst (Stored st target g old blob can F0) (sym same) (stored st target g old blob can F0 F1 keeps first)) torn
 
-  module _ (second : F2 ≡ put (2 + target.place) (unit ∷ []) F1) where
-    pub third_phase : (from image : Units) → from ≡ F2 → SameOutside old.offset old.count from image → StandsWith st target g blob F0 image
+  module _ (second : F2 ≡ with_units (2 + target.place) (unit ∷ []) F1) where
+    pub third_phase : (from image : Units) → from ≡ F2 → SameOutside old.offset old.count from image → RepresentsPut st target g blob F0 image
     third_phase from image same changed =
-        let at : StandsWith st target g blob F0 F2 =
-        subst (StandsWith st target g blob F0) (sym second) (slotted st target g old blob can F0 keeps unit is F1
+        let at : RepresentsPut st target g blob F0 F2 =
+        subst (RepresentsPut st target g blob F0) (sym second) (slotted st target g old blob can F0 keeps unit is F1
         (stored st target g old blob can F0 F1 keeps first)) in
-        cleared st target g old blob can F0 from image keeps (subst (StandsWith st target g blob F0) (sym same) at) changed
+        cleared st target g old blob can F0 from image keeps (subst (RepresentsPut st target g blob F0) (sym same) at) changed

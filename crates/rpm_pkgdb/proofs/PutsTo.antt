@@ -2,8 +2,8 @@
 use Rattle.std.proofs.Common.{◌≡◌, ◌≢◌, inl, inr, ℕ, ◌^◌, ◌<◌, ◌≤◌, List, length, true, false, Some, refl, sym, ap, ◌∙◌, arith}
 use Rattle.std.specs.FinMap as finite
 use Rattle.std.proofs.lemmas.Bool.Decides.{nat_tests}
-use Rattle.rpm_pkgdb.proofs.Vocabulary.{After, Before, blobs, blocks_for, CanPut, has_number, in_file, is_used, Keeps, next_field, Numbered, PutsTo, Slot}
-use Rattle.rpm_pkgdb.proofs.Vocabulary.{slot_at, slot_for, StandsWith, Store, Target, Units, WhilePut, with_blob, with_next}
+use Rattle.rpm_pkgdb.proofs.Vocabulary.{After, Before, blobs, blocks_for, CanPut, has_number, in_file, is_used, KeepsStore, next_field, Numbered, PutsTo, Slot}
+use Rattle.rpm_pkgdb.proofs.Vocabulary.{slot_at, slot_for, RepresentsPut, Store, Target, Units, WhilePut, with_put, with_next}
 use Rattle.rpm_pkgdb.proofs.Facts.{cases_Bool, number_facts, has_it_from}
 use Rattle.rpm_pkgdb.proofs.BlobMaps.{same_blobs, put_blobs}
 use Rattle.rpm_pkgdb.proofs.Made.{made}
@@ -18,7 +18,7 @@ module _ (st : Store) (target : Target) (g : ℕ) (old : Slot) (blob : List ℕ)
   k = target.place
 
   abbrev after : Store
-  after = with_blob target st
+  after = with_put target st
 
   abbrev mid_value : Store
   mid_value = with_next (next_field target) st
@@ -39,7 +39,7 @@ module _ (st : Store) (target : Target) (g : ℕ) (old : Slot) (blob : List ℕ)
   ]
 
   -- the blobs once the slot is written
-  pub put_map : (file image : Units) → Keeps file st → StandsWith st target g blob file image
+  pub put_map : (file image : Units) → KeepsStore file st → RepresentsPut st target g blob file image
       → blobs image after ≡ finite.insert (blobs file st) target.number (Some blob)
   put_map file image keeps stands =
       let here = made file st keeps can.made in
@@ -52,7 +52,7 @@ module _ (st : Store) (target : Target) (g : ℕ) (old : Slot) (blob : List ℕ)
       (framed_frame target.number g blob fits_n can.fits few image s (ap blocks_for can.length_is) stands.holds) stands.others
       ∙ ap (λ (b : List ℕ). finite.insert (blobs file st) target.number (Some b)) (blob_is target.number g blob fits_n can.fits few)
 
-  pub puts_to : (file image : Units) → Keeps file st → WhilePut st target g blob file image → PutsTo st target blob file image
+  pub puts_to : (file image : Units) → KeepsStore file st → WhilePut st target g blob file image → PutsTo st target blob file image
   puts_to file image keeps (Before stands) = inl (stands_for st file image can.made keeps stands)
   puts_to file image keeps (Numbered stands) = inr (inl (
       let here = made file st keeps can.made in

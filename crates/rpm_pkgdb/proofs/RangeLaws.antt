@@ -2,7 +2,7 @@
 use Rattle.std.proofs.Common.{◌≡◌, ◌≢◌, inl, inr, ℕ, ◌^◌, List, true, sym, ap, ◌∙◌, subst, arith, set, Option, Some, None}
 use Rattle.std.specs.Prelude.{Contains}
 use Rattle.std.proofs.lemmas.Bool.{cases_eq}
-use Rattle.rpm_pkgdb.proofs.Vocabulary.{AreRangesOf, AreSound, begins_in, Blocks, Forgets, free, HasStart, HasUsed, is_used, Range, range_of, Slot, slot_at}
+use Rattle.rpm_pkgdb.proofs.Vocabulary.{AreRangesOf, AreSound, begins_in, Blocks, Forgets, free, HasStart, HasUsed, is_used, Range, range_of_slot, Slot, slot_at}
 use Rattle.rpm_pkgdb.proofs.Vocabulary.{without, without_keeps, without_only}
 use Rattle.rpm_pkgdb.proofs.ClearLaws.{set_here, set_other}
 use Rattle.rpm_pkgdb.proofs.Pairwise.{used_below}
@@ -19,7 +19,7 @@ module _ (pages : ℕ) (slots : List Slot) (sound : AreSound pages (2 ^ 28) slot
   module _ (k : ℕ) (used_k : is_used (slot_at slots k) ≡ true) where
     pub has_start : (used : Option Blocks) (spare : ℕ) → HasUsed used spare slots → HasStart used (slot_at slots k).offset
     has_start None spare has = tt
-    has_start (Some b) spare has = begins_in b.ranges (range_of (slot_at slots k)) (has.0.each k used_k)
+    has_start (Some b) spare has = begins_in b.ranges (range_of_slot (slot_at slots k)) (has.0.each k used_k)
 
     freed_ranges : (b d : Blocks) → AreRangesOf b.ranges slots → d.ranges ≡ without (slot_at slots k).offset b.ranges → AreRangesOf d.ranges (set slots k free)
     freed_ranges b d has is =
@@ -32,16 +32,16 @@ module _ (pages : ℕ) (slots : List Slot) (sound : AreSound pages (2 ^ 28) slot
             | inr other ↦
                 (let stays = set_other pages (2 ^ 28) slots sound k below free j other in
                 let was : is_used (slot_at slots j) ≡ true = ap is_used (sym stays) ∙ used in
-                subst (λ (l : List Range). Contains l (range_of (slot_at (set slots k free) j))) (sym is)
-                (subst (λ (t : Slot). Contains (without (slot_at slots k).offset b.ranges) (range_of t)) (sym stays)
-                (without_keeps (slot_at slots k).offset (range_of (slot_at slots j)) b.ranges (other_start j k other was used_k) (has.each j was))))
+                subst (λ (l : List Range). Contains l (range_of_slot (slot_at (set slots k free) j))) (sym is)
+                (subst (λ (t : Slot). Contains (without (slot_at slots k).offset b.ranges) (range_of_slot t)) (sym stays)
+                (without_keeps (slot_at slots k).offset (range_of_slot (slot_at slots j)) b.ranges (other_start j k other was used_k) (has.each j was))))
           ];
           only = λ x there.
               let w = without_only (slot_at slots k).offset x b.ranges (subst (λ (l : List Range). Contains l x) is there) in
               let u = has.only x w.1 in
               let other : u.at ≢ k = λ here. w.0 (ap (λ (r : Range). r.start) u.is ∙ ap (λ (i : ℕ). (slot_at slots i).offset) here) in
               let stays = set_other pages (2 ^ 28) slots sound k below free u.at other in
-              record { at = u.at; used = ap is_used stays ∙ u.used; is = u.is ∙ ap range_of (sym stays) };
+              record { at = u.at; used = ap is_used stays ∙ u.used; is = u.is ∙ ap range_of_slot (sym stays) };
         }
 
     -- the range of a slot that is set free is taken out

@@ -3,8 +3,8 @@ use Rattle.std.proofs.Common.{◌≡◌, ◌≢◌, inl, inr, ℕ, zero, suc, �
 use Rattle.std.proofs.lemmas.Bool.{cases_eq, cases_lt}
 use Rattle.std.proofs.lemmas.Bool.Decides.{nat_tests}
 use Rattle.std.proofs.lemmas.List.{take_all}
-use Rattle.rpm_pkgdb.proofs.Vocabulary.{AreMovesOf, BlobPut, CanAdd, end_of, EndsBy, FieldPut, free, grown, is_used, IsKept, IsPlan, IsWithin, Keeps}
-use Rattle.rpm_pkgdb.proofs.Vocabulary.{last_end, length-put, Move, move_at, moved, moves_of, MovesWithin, Pairs, Plan, put, SameOutside, Slot, slot_at}
+use Rattle.rpm_pkgdb.proofs.Vocabulary.{AreMovesOf, BlobPut, CanAdd, end_of, KeepsEnd, FieldPut, free, grown, is_used, IsKept, IsPlan, AreBlocksWithin, KeepsStore}
+use Rattle.rpm_pkgdb.proofs.Vocabulary.{last_end, length-put, Move, move_at, moved_slot, moves_of, MovesWithin, Pairs, Plan, with_units, SameOutside, Slot, slot_at}
 use Rattle.rpm_pkgdb.proofs.Vocabulary.{slot_for, Store, store_end, Units, with_moves, with_plan}
 use Rattle.rpm_pkgdb.proofs.Facts.{cases_Bool, number_facts}
 use Rattle.rpm_pkgdb.proofs.GrowLaws.{at_front}
@@ -18,19 +18,19 @@ use Rattle.rpm_pkgdb.proofs.PutSteps.{after, was_held, at_place}
 -- ---- writes
 
 -- one unit
-pub unit_ends : (limit at : ℕ) (unit : List ℕ) (a b : Units) → at + 1 ≤ limit → b ≡ put at (unit ∷ []) a → EndsBy limit a b
+pub unit_ends : (limit at : ℕ) (unit : List ℕ) (a b : Units) → at + 1 ≤ limit → b ≡ with_units at (unit ∷ []) a → KeepsEnd limit a b
 unit_ends limit at unit a b last written short = omega (arith, ap length written, length-put at (unit ∷ []) a)
 
-pub outside_ends : (limit at n : ℕ) (a b : Units) → at + n ≤ limit → SameOutside at n a b → EndsBy limit a b
+pub outside_ends : (limit at n : ℕ) (a b : Units) → at + n ≤ limit → SameOutside at n a b → KeepsEnd limit a b
 outside_ends limit at n a b last same short = omega (arith, same.no_longer)
 
-field_ends : (limit : ℕ) (field : Option ℕ) (a b : Units) → 2 ≤ limit → FieldPut field a b → EndsBy limit a b
+field_ends : (limit : ℕ) (field : Option ℕ) (a b : Units) → 2 ≤ limit → FieldPut field a b → KeepsEnd limit a b
 field_ends limit None a b last written short = omega (arith, ap length written)
 field_ends limit (Some next) a b last written short = unit_ends limit 1 written.0 a b last written.2 short
 
 -- a blob and the number field
 pub blob_ends : (limit at : ℕ) (units : Units) (field : Option ℕ) (a b : Units) → at + length units ≤ limit → 2 ≤ limit → BlobPut at units field a b
-    → EndsBy limit a b
+    → KeepsEnd limit a b
 blob_ends limit at units field a b last two written short =
     field_ends limit field written.mid b two written.field_put (omega (arith, ap length written.blocks, length-put at units a))
 
@@ -45,11 +45,11 @@ used_end (s ∷ ss) zero used = let e : (if is_used s then end_of s else 0) ≡ 
 used_end (s ∷ ss) (suc k) used = let rest = used_end ss k used in omega arith
 
 -- what a store's end is by
-pub end_within : (limit : ℕ) (value : Store) → store_end value ≤ limit → IsWithin limit value
+pub end_within : (limit : ℕ) (value : Store) → store_end value ≤ limit → AreBlocksWithin limit value
 end_within limit value le = record { pages = omega arith; used = λ k used. omega (arith, used_end value.slots k used) }
 
 -- what a file keeps ends in it
-pub file_within : (file : Units) (value : Store) → Keeps file value → 1 ≤ value.pages → IsWithin (length file) value
+pub file_within : (file : Units) (value : Store) → KeepsStore file value → 1 ≤ value.pages → AreBlocksWithin (length file) value
 file_within file value keeps some =
     let m = made file value keeps some in record { pages = m.lawful.inside; used = λ k used. (m.sound.placed k used).inside }
 
@@ -60,7 +60,7 @@ module _ (value : Store) (moves : List Move) (k : ℕ) (are : AreMovesOf value m
   m = move_at moves k
 
   abbrev there : Slot
-  there = moved (slot_at value.slots m.place) m.to
+  there = moved_slot (slot_at value.slots m.place) m.to
 
   abbrev to_step : ℕ → List Slot
   to_step j = (with_moves value (take j moves)).slots
@@ -72,10 +72,10 @@ module _ (value : Store) (moves : List Move) (k : ℕ) (are : AreMovesOf value m
       let one : suc j ≡ j + 1 = omega arith in
       let u = with_moves value (take j moves) in
       let n = move_at moves j in
-      let more : with_moves value (take (suc j) moves) ≡ record u { slots = set u.slots n.place (moved (slot_at u.slots n.place) n.to) } =
+      let more : with_moves value (take (suc j) moves) ≡ record u { slots = set u.slots n.place (moved_slot (slot_at u.slots n.place) n.to) } =
       ap (λ (i : ℕ). with_moves value (take i moves)) one ∙ after_more value moves j (omega arith) in
       let next = next_of value moves j are (omega arith) in
-      let same : slot_at (to_step (suc j)) m.place ≡ slot_at (set u.slots n.place (moved (slot_at u.slots n.place) n.to)) m.place =
+      let same : slot_at (to_step (suc j)) m.place ≡ slot_at (set u.slots n.place (moved_slot (slot_at u.slots n.place) n.to)) m.place =
       ap (λ (v : Store). slot_at v.slots m.place) more in
       elim (cases_lt k j) [
         | inl later ↦
@@ -88,17 +88,17 @@ module _ (value : Store) (moves : List Move) (k : ℕ) (are : AreMovesOf value m
                   absurd (let at : (slot_at u.slots n.place).offset ≡ m.to = ap (λ (i : ℕ). (slot_at u.slots i).offset) (sym here)
                   ∙ ap (λ (s : Slot). s.offset) before in
                   omega (arith, next.before, first.least.from_on, base.pages_are, now.pages_are, at))
-              | inr other ↦ same ∙ get_or-set_other u.slots n.place m.place (moved (slot_at u.slots n.place) n.to) free other ∙ before
+              | inr other ↦ same ∙ get_or-set_other u.slots n.place m.place (moved_slot (slot_at u.slots n.place) n.to) free other ∙ before
             ])
         | inr here ↦
             (let at : j ≡ k = omega arith in
             let old : slot_at u.slots m.place ≡ slot_at value.slots m.place =
             ap (λ (i : ℕ). slot_at (to_step i) m.place) at ∙ unmoved value moves k are below in
             let to : n ≡ m = ap (move_at moves) at in
-            same ∙ ap (λ (x : Move). slot_at (set u.slots x.place (moved (slot_at u.slots x.place) x.to)) m.place) to
-            ∙ get_or-set_same u.slots m.place (moved (slot_at u.slots m.place) m.to) free
+            same ∙ ap (λ (x : Move). slot_at (set u.slots x.place (moved_slot (slot_at u.slots x.place) x.to)) m.place) to
+            ∙ get_or-set_same u.slots m.place (moved_slot (slot_at u.slots m.place) m.to) free
             (used_below u.slots m.place (subst (λ (x : Move). is_used (slot_at u.slots x.place) ≡ true) to next.used))
-            ∙ ap (λ (s : Slot). moved s m.to) old)
+            ∙ ap (λ (s : Slot). moved_slot s m.to) old)
       ]
 
   landed : slot_at (with_moves value moves).slots m.place ≡ there
@@ -107,7 +107,7 @@ module _ (value : Store) (moves : List Move) (k : ℕ) (are : AreMovesOf value m
 
   -- in a store that grew by them
   pub moves_within : (numbers : Pairs) → IsKept numbers value.pages value.slots → 1 ≤ value.pages → CanAdd value moves → (file : Units)
-      → Keeps file value → (limit : ℕ) → IsWithin limit (grown (Some moves) value) → length file ≤ limit → MovesWithin limit value.slots m
+      → KeepsStore file value → (limit : ℕ) → AreBlocksWithin limit (grown (Some moves) value) → length file ≤ limit → MovesWithin limit value.slots m
   moves_within numbers kept some can file keeps limit within short =
       let next = next_of value moves k are below in
       let used : is_used (slot_at value.slots m.place) ≡ true = ap is_used (sym (unmoved value moves k are below)) ∙ next.used in
@@ -126,7 +126,7 @@ module _ (value : Store) (moves : List Move) (k : ℕ) (are : AreMovesOf value m
 
 module _ (numbers : Pairs) (v : Store) (kept : IsKept numbers v.pages v.slots) (some : 1 ≤ v.pages) (plan : Plan) (is : IsPlan v plan) (old : Slot)
     (new : plan.target.is_new ≡ true → old ≡ free) (held : plan.target.is_new ≡ false → old ≡ slot_at v.slots plan.target.place) (file : Units)
-    (keeps : Keeps file v) (limit : ℕ) (short : length file ≤ limit) (within : IsWithin limit (with_plan plan v)) where
+    (keeps : KeepsStore file v) (limit : ℕ) (short : length file ≤ limit) (within : AreBlocksWithin limit (with_plan plan v)) where
   abbrev grew : Store
   grew = after v plan is some
 
@@ -153,7 +153,7 @@ module _ (numbers : Pairs) (v : Store) (kept : IsKept numbers v.pages v.slots) (
       let k = grown_kept numbers v kept some (moves_of plan.page) (may_grow v plan.target.is_new (moves_of plan.page) is.page) in
       omega (arith, is.target.below, k.count, within.pages)
 
-  pub grown_within : IsWithin limit grew
+  pub grown_within : AreBlocksWithin limit grew
   grown_within = record {
     pages = within.pages;
     used = λ k used. elim (cases_eq k plan.target.place) [

@@ -1,13 +1,13 @@
 -- A table that is read piece by piece, and what its reading says of it.
 use Rattle.std.proofs.Common.{◌≡◌, ℕ, suc, ◌+◌, ◌-◌, ◌*◌, ◌^◌, ◌<◌, ◌≤◌, List, [], ◌∷◌, ◌++◌, length, take, drop, true, Option, Some, None, is_some, Result, Ok, Err, OnOk, IfOk, IfErr, refl, sym, ap, ◌∙◌, subst, arith, inl, inr, length-append, length-drop, take-append-drop, drop-cons}
-use Rattle.rpm_pkgdb.proofs.Vocabulary.{AreBounded, AreNumbered, AreOwn, AreRead, AreSound, blank, Damage, damage_at, Damaged, DiskFault, EndsAt, fault_of}
-use Rattle.rpm_pkgdb.proofs.Vocabulary.{is_used, IsAll, IsPlaced, IsRead, meeting, NoMemory, OpenFault, option_map, option_or, own_reason, Reading, Reason}
-use Rattle.rpm_pkgdb.proofs.Vocabulary.{run, run-append, Says, SaysHere, shared_reason, Slot, slot_at, slot_fault, slot_of, slots_in, table, table_fault}
+use Rattle.rpm_pkgdb.proofs.Vocabulary.{AreBounded, AreNumbered, AreOwn, AreRead, AreSound, blank, Damage, damage_at, Damaged, DiskFault, EndOfUnits, fault_of}
+use Rattle.rpm_pkgdb.proofs.Vocabulary.{is_used, IsAll, IsPlaced, AreSlotsRead, first_shared_fault, NoMemory, OpenFault, option_map, option_or, own_reason, Reading, Reason}
+use Rattle.rpm_pkgdb.proofs.Vocabulary.{run, run-append, DamageIs, SaysHere, shared_reason, Slot, slot_at, slot_fault, slot_of, slots_in, slot_units, table_fault}
 use Rattle.rpm_pkgdb.proofs.Vocabulary.{table_is_run, unit_at, Units}
 use Rattle.std.proofs.Math.Seq.{take-add}
 use Rattle.std.proofs.lemmas.Bool.{cases_lt}
 use Rattle.std.proofs.lemmas.List.{length-take, get_or_append_left, get_or-append_right, get_or-take, get_or-drop, take-take, take_all, drop-take, drop-drop}
-use Rattle.rpm_pkgdb.specs.inner.Reading.{Adds}
+use Rattle.rpm_pkgdb.specs.inner.Reading.{SlotsRead}
 use Rattle.rpm_pkgdb.proofs.MeetingLaws.{run_meeting}
 use Rattle.rpm_pkgdb.proofs.Pairwise.{slot_in, used_below}
 use Rattle.rpm_pkgdb.proofs.Sound.{placed}
@@ -36,12 +36,12 @@ read_of Told pages units whole other slots same was = record {
 }
 
 pub ends_early : (pages units : ℕ) (us : Units) (count : ℕ) (o : Option Reason) → count < length us → o ≡ own_reason pages units (unit_at us count)
-    → is_some o ≡ true → EndsAt pages units us count o
+    → is_some o ≡ true → EndOfUnits pages units us count o
 ends_early pages units us count None below is some = absurd cc
 ends_early pages units us count (Some reason) below is some = (below, sym is)
 
-pub piece_of_table : (pages at n : ℕ) (file : Units) → at + n ≤ 256 * pages - 2 → take n (drop (2 + at) file) ≡ take n (drop at (table pages file))
-unfolding table
+pub piece_of_table : (pages at n : ℕ) (file : Units) → at + n ≤ 256 * pages - 2 → take n (drop (2 + at) file) ≡ take n (drop at (slot_units pages file))
+unfolding slot_units
 piece_of_table pages at n file le =
     let rest = 256 * pages - 2 - at in
     let all : at + rest ≡ 256 * pages - 2 = omega (arith, le) in
@@ -51,12 +51,12 @@ piece_of_table pages at n file le =
     ∙ ap (λ (us : Units). take n us) (drop-drop at 2 file))
 
 module _ (Told : Type 0) (pages units : ℕ) (whole : Units) (old : List Slot) (was : AreRead Told pages units whole old) (n : ℕ) (us : Units)
-    (long : length us ≡ n) (come : Told → us ≡ take n (drop (length old) whole)) (new : Reading) (adds : Adds pages units us old new)
+    (long : length us ≡ n) (come : Told → us ≡ take n (drop (length old) whole)) (new : Reading) (adds : SlotsRead pages units us old new)
     (numbered : AreNumbered new.rising.slots.items) where
   count_old : length old ≡ length was.us
   count_old = ap length was.slots_are ∙ length-slots_in was.us
 
-  by_end : (o : Option Reason) → EndsAt pages units us adds.count o → adds.count ≤ length us
+  by_end : (o : Option Reason) → EndOfUnits pages units us adds.count o → adds.count ≤ length us
   by_end None e = omega (arith, e)
   by_end (Some reason) e = omega (arith, e.0)
 
@@ -96,7 +96,7 @@ module _ (Told : Type 0) (pages units : ℕ) (whole : Units) (old : List Slot) (
   unfolding more
   count_new = omega (arith, ap length adds.slots_are, length-append old (slots_in more), length-slots_in more, count_more)
 
-  by_reason : (o : Option Reason) → EndsAt pages units us adds.count o → IsAll Told pages units whole (length old + n) (length new.rising.slots.items) o
+  by_reason : (o : Option Reason) → EndOfUnits pages units us adds.count o → IsAll Told pages units whole (length old + n) (length new.rising.slots.items) o
   by_reason None e = omega (arith, count_new, e, long)
   by_reason (Some reason) e = (
     omega (arith, count_new, e.0, long),
@@ -110,7 +110,7 @@ module _ (Told : Type 0) (pages units : ℕ) (whole : Units) (old : List Slot) (
         )),
   )
 
-  pub reading_more : IsRead Told pages units whole (length old + n) new
+  pub reading_more : AreSlotsRead Told pages units whole (length old + n) new
   unfolding more
   reading_more = record {
     slots = record {
@@ -135,10 +135,10 @@ module _ (Told : Type 0) (pages units : ℕ) (whole : Units) (slots : List Slot)
       let q = subst (IsPlaced pages units) (sym is) p in
       (q.some, q.below)
 
-  first_run : run pages units [] read.us ≡ meeting [] slots
-  first_run = run_meeting pages units [] read.us read.own ∙ ap (meeting []) (sym read.slots_are)
+  first_run : run pages units [] read.us ≡ first_shared_fault [] slots
+  first_run = run_meeting pages units [] read.us read.own ∙ ap (first_shared_fault []) (sym read.slots_are)
 
-  pub read_placed : meeting [] slots ≡ None → AreSound pages (2 ^ 28) slots
+  pub read_placed : first_shared_fault [] slots ≡ None → AreSound pages (2 ^ 28) slots
   read_placed none = none_limit pages units read.us slots read.slots_are (table_is_run pages units read.us ∙ first_run ∙ none)
 
   count : length slots ≡ length read.us
@@ -149,9 +149,9 @@ module _ (Told : Type 0) (pages units : ℕ) (whole : Units) (slots : List Slot)
     read_whole all = read.told t ∙ take_all (length read.us) whole (omega (arith, all, count))
 
     fault_whole : (o : Option Reason) → IsAll Told pages units whole (length whole) (length slots) o
-        → table_fault pages units whole ≡ option_or (meeting [] slots) (option_map (damage_at (2 + length slots)) o)
+        → table_fault pages units whole ≡ option_or (first_shared_fault [] slots) (option_map (damage_at (2 + length slots)) o)
     fault_whole None all =
-        table_is_run pages units whole ∙ ap (run pages units []) (sym (read_whole all)) ∙ first_run ∙ sym (or_else_none (meeting [] slots))
+        table_is_run pages units whole ∙ ap (run pages units []) (sym (read_whole all)) ∙ first_run ∙ sym (or_else_none (first_shared_fault [] slots))
     fault_whole (Some reason) at =
         let n = length slots in
         let u = unit_at whole n in
@@ -163,30 +163,31 @@ module _ (Told : Type 0) (pages units : ℕ) (whole : Units) (slots : List Slot)
         ∙ run-append pages units [] (take n whole) (drop n whole)
         ∙ ap (λ (xs : Units). option_or (run pages units [] xs) (run pages units (slots_in xs) (drop n whole))) front
         ∙ ap (λ (o : Option Damage). option_or o (run pages units (slots_in read.us) (drop n whole))) first_run
-        ∙ ap (λ (ss : List Slot). option_or (meeting [] slots) (run pages units ss (drop n whole))) (sym read.slots_are)
-        ∙ ap (λ (xs : Units). option_or (meeting [] slots) (run pages units slots xs)) (drop-cons whole n blank (at.1 t).0)
-        ∙ ap (λ (o : Option Damage). option_or (meeting [] slots) (option_or o (run pages units (slots ++ slot_of u ∷ []) (drop (suc n) whole)))) here
+        ∙ ap (λ (ss : List Slot). option_or (first_shared_fault [] slots) (run pages units ss (drop n whole))) (sym read.slots_are)
+        ∙ ap (λ (xs : Units). option_or (first_shared_fault [] slots) (run pages units slots xs)) (drop-cons whole n blank (at.1 t).0)
+        ∙ ap (λ (o : Option Damage). option_or (first_shared_fault [] slots) (option_or o (run pages units (slots ++ slot_of u ∷ []) (drop (suc n) whole))))
+        here
 
-pub read_fault : (Told : Type 0) (pages units : ℕ) (whole : Units) (r : Reading) → IsRead Told pages units whole (length whole) r → Told
+pub read_fault : (Told : Type 0) (pages units : ℕ) (whole : Units) (r : Reading) → AreSlotsRead Told pages units whole (length whole) r → Told
     → table_fault pages units whole ≡ fault_of r
 read_fault Told pages units whole r is t = fault_whole Told pages units whole r.rising.slots.items is.slots t r.reason is.all
 
-pub says_whole : (Told : Type 0) (fault whole : Option Damage) (e : OpenFault) → (Told → whole ≡ fault) → SaysHere e fault → Told → Says e whole
+pub says_whole : (Told : Type 0) (fault whole : Option Damage) (e : OpenFault) → (Told → whole ≡ fault) → SaysHere e fault → Told → DamageIs e whole
 says_whole Told fault whole (Damaged d) same says = λ t. same t ∙ says
 says_whole Told fault whole DiskFault same says = λ t. tt
 says_whole Told fault whole NoMemory same says = λ t. tt
 
 -- ---- the answer
 
-pub table_count : (pages : ℕ) (file : Units) → 256 * pages ≤ length file → length (table pages file) ≡ 256 * pages - 2
-unfolding table
+pub table_count : (pages : ℕ) (file : Units) → 256 * pages ≤ length file → length (slot_units pages file) ≡ 256 * pages - 2
+unfolding slot_units
 table_count pages file within = omega (arith, within, length-take (256 * pages - 2) (drop 2 file), length-drop 2 file)
 
-pub read_count : (Told : Type 0) (pages units : ℕ) (whole : Units) (asked : ℕ) (r : Reading) → IsRead Told pages units whole asked r → r.reason ≡ None
+pub read_count : (Told : Type 0) (pages units : ℕ) (whole : Units) (asked : ℕ) (r : Reading) → AreSlotsRead Told pages units whole asked r → r.reason ≡ None
     → length r.rising.slots.items ≡ asked
 read_count Told pages units whole asked r is none = subst (IsAll Told pages units whole asked (length r.rising.slots.items)) none is.all
 
-pub read_few : (Told : Type 0) (pages units : ℕ) (whole : Units) (asked : ℕ) (r : Reading) → IsRead Told pages units whole asked r
+pub read_few : (Told : Type 0) (pages units : ℕ) (whole : Units) (asked : ℕ) (r : Reading) → AreSlotsRead Told pages units whole asked r
     → length r.rising.slots.items ≤ asked
 read_few Told pages units whole asked r is = by_reason r.reason is.all
   where
@@ -194,8 +195,8 @@ read_few Told pages units whole asked r is = by_reason r.reason is.all
     by_reason None all = omega (arith, all)
     by_reason (Some reason) all = omega (arith, all.0)
 
-pub no_meeting : (r : Reading) → fault_of r ≡ None → meeting [] r.rising.slots.items ≡ None
-no_meeting r none = first_none (meeting [] r.rising.slots.items) (option_map (damage_at (2 + length r.rising.slots.items)) r.reason) none
+pub no_meeting : (r : Reading) → fault_of r ≡ None → first_shared_fault [] r.rising.slots.items ≡ None
+no_meeting r none = first_none (first_shared_fault [] r.rising.slots.items) (option_map (damage_at (2 + length r.rising.slots.items)) r.reason) none
   where
     first_none : (a b : Option Damage) → option_or a b ≡ None → a ≡ None
     first_none None b e = refl

@@ -2,8 +2,8 @@
 use Rattle.std.proofs.Common.{◌≡◌, ◌≢◌, ◌⊎◌, inl, inr, ℕ, ◌+◌, ◌-◌, ◌*◌, ◌<◌, ◌≤◌, List, [], ◌∷◌, length, true, sym, ap, ◌∙◌, subst, arith, set, get_or-set_same, get_or-set_other}
 use Rattle.std.proofs.lemmas.Bool.{cases_eq}
 use Rattle.std.proofs.lemmas.Bool.Decides.{nat_tests}
-use Rattle.rpm_pkgdb.proofs.Vocabulary.{AreSound, CanSet, end_of, free, Holds, is_used, IsClear, IsPlaced, IsSlotUnit, put, SameOutside, Slot, slot_at}
-use Rattle.rpm_pkgdb.proofs.Vocabulary.{StandsAs, StandsSet, Store, Torn, unit_at, Units, with_slot}
+use Rattle.rpm_pkgdb.proofs.Vocabulary.{AreSound, CanSet, end_of, free, HasUnits, is_used, IsClear, IsPlaced, IsSlotUnit, with_units, SameOutside, Slot, slot_at}
+use Rattle.rpm_pkgdb.proofs.Vocabulary.{RepresentsStore, RepresentsSlot, Store, Torn, unit_at, Units, with_slot}
 use Rattle.rpm_pkgdb.proofs.Made.{made, from_made}
 use Rattle.rpm_pkgdb.proofs.ClearLaws.{torn_one, put_elsewhere, put_length, put_sound, set_made, outside_made, outside_blocks}
 use Rattle.rpm_pkgdb.proofs.Erases.{blocks_then}
@@ -21,7 +21,7 @@ module _ (st : Store) (place : ℕ) (s : Slot) (can : CanSet st place s) where
   set_clear : IsClear st s.offset s.count
   set_clear = record { behind = can.behind; apart = can.fits.apart }
 
-  pub aside_stands : (file from mid : Units) → StandsAs st file from → SameOutside s.offset s.count from mid → StandsAs st file mid
+  pub aside_stands : (file from mid : Units) → RepresentsStore st file from → SameOutside s.offset s.count from mid → RepresentsStore st file mid
   aside_stands file from mid stands same =
       let m = made from st stands.keeps can.made in
       record {
@@ -61,15 +61,15 @@ module _ (st : Store) (place : ℕ) (s : Slot) (can : CanSet st place s) where
       }
 
   module _ (us : Units) (long : length us ≡ s.count) where
-    module _ (unit : List ℕ) (is : IsSlotUnit unit s) (file from : Units) (stands : StandsAs st file from) (holds : Holds from s.offset us) where
+    module _ (unit : List ℕ) (is : IsSlotUnit unit s) (file from : Units) (stands : RepresentsStore st file from) (holds : HasUnits from s.offset us) where
       -- once the slot is written
-      pub set_stands : StandsSet st place s us file (put (2 + place) (unit ∷ []) from)
+      pub set_stands : RepresentsSlot st place s us file (with_units (2 + place) (unit ∷ []) from)
       set_stands =
           let m = made from st stands.keeps can.made in
           let low : 2 + place < 256 * st.pages = omega (arith, can.below, m.count) in
           let sound = set_sound (length from) (omega (arith, holds.within, long)) m.sound in
           record {
-            keeps = from_made (put (2 + place) (unit ∷ []) from) after (set_made from st m place unit s can.below is sound);
+            keeps = from_made (with_units (2 + place) (unit ∷ []) from) after (set_made from st m place unit s can.below is sound);
             others =
                 λ j i differs used at to. put_elsewhere (2 + place) unit from i (omega (arith, low, at, (m.sound.placed j used).behind))
                 ∙ stands.blocks j i used at to;
@@ -80,16 +80,16 @@ module _ (st : Store) (place : ℕ) (s : Slot) (can : CanSet st place s) where
           }
 
       -- a crash while it is written
-      pub while_set : (image : Units) → Torn (2 + place) (unit ∷ []) from image → StandsAs st file image ⊎ StandsSet st place s us file image
+      pub while_set : (image : Units) → Torn (2 + place) (unit ∷ []) from image → RepresentsStore st file image ⊎ RepresentsSlot st place s us file image
       while_set image torn =
           let m = made from st stands.keeps can.made in
           elim (torn_one (2 + place) unit from image (omega (arith, can.below, m.count, m.lawful.inside)) torn) [
-            | inl same ↦ inl (subst (StandsAs st file) (sym same) stands)
-            | inr new ↦ inr (subst (StandsSet st place s us file) (sym new) set_stands)
+            | inl same ↦ inl (subst (RepresentsStore st file) (sym same) stands)
+            | inr new ↦ inr (subst (RepresentsSlot st place s us file) (sym new) set_stands)
           ]
 
     -- a range that is clear of the new value's slots changes
-    module _ (file from image : Units) (was : StandsSet st place s us file from) (at n : ℕ) (clear : IsClear after at n)
+    module _ (file from image : Units) (was : RepresentsSlot st place s us file from) (at n : ℕ) (clear : IsClear after at n)
         (same : SameOutside at n from image) where
       used_new : is_used s ≡ true
       used_new = (let low : s.offset ≢ 0 = omega (arith, can.made, can.behind) in grind (arith, nat_tests))
@@ -98,7 +98,7 @@ module _ (st : Store) (place : ℕ) (s : Slot) (can : CanSet st place s) where
           → unit_at image i ≡ unit_at from i
       beside j used i low high = elim (clear.apart j used) [ inl l ↦ same.above i (omega (arith, l, low)) | inr r ↦ same.below i (omega (arith, r, high)) ]
 
-      pub set_aside : StandsSet st place s us file image
+      pub set_aside : RepresentsSlot st place s us file image
       set_aside =
           let m = made from after was.keeps can.made in
           record {
@@ -116,8 +116,8 @@ module _ (st : Store) (place : ℕ) (s : Slot) (can : CanSet st place s) where
             };
           }
 
-    -- two images with the slot stand for each other
-    pub set_alike : (file a b : Units) → StandsSet st place s us file a → StandsSet st place s us file b → StandsAs after a b
+    -- two images with the slot represent each other
+    pub set_alike : (file a b : Units) → RepresentsSlot st place s us file a → RepresentsSlot st place s us file b → RepresentsStore after a b
     set_alike file a b in_a in_b =
         record {
           keeps = in_b.keeps;

@@ -1,6 +1,6 @@
 -- Slots that were read without a fault are sound.
 use Rattle.std.proofs.Common.{◌≡◌, inl, inr, ℕ, ◌^◌, ◌<◌, List, [], ◌∷◌, ◌++◌, length, true, Option, Some, None, refl, sym, ap, ◌∙◌, subst, arith, append_assoc}
-use Rattle.rpm_pkgdb.proofs.Vocabulary.{AreApart, AreSound, free, is_used, IsPlaced, option_or, run, shared_reason, Slot, slot_at, slot_fault, slot_of}
+use Rattle.rpm_pkgdb.proofs.Vocabulary.{AreSlotsApart, AreSound, free, is_used, IsPlaced, option_or, run, shared_reason, Slot, slot_at, slot_fault, slot_of}
 use Rattle.rpm_pkgdb.proofs.Vocabulary.{slots_in, Units}
 use Rattle.std.proofs.lemmas.List.{get_or_append_left, get_or_push, length_push, append-nil}
 use Rattle.std.proofs.lemmas.Bool.{cases_lt}
@@ -15,7 +15,7 @@ module _ (pages units : ℕ) (slots : List Slot) (s : Slot) (sound : AreSound pa
   at_new : (k : ℕ) → k ≡ length slots → slot_at (slots ++ s ∷ []) k ≡ s
   at_new k here = get_or_push slots s free k (sym here)
 
-  last_apart : (j : ℕ) → j < length slots → is_used (slot_at slots j) ≡ true → is_used s ≡ true → AreApart (slot_at slots j) s
+  last_apart : (j : ℕ) → j < length slots → is_used (slot_at slots j) ≡ true → is_used s ≡ true → AreSlotsApart (slot_at slots j) s
   last_apart j below used_j used = apart_from slots s j fresh used below used_j
 
   pub sound_push : AreSound pages units (slots ++ s ∷ [])
@@ -29,20 +29,20 @@ module _ (pages units : ℕ) (slots : List Slot) (s : Slot) (sound : AreSound pa
     apart = λ j k differ used_j used_k. elim (cases_lt j (length slots)) [
       | inl below_j ↦ elim (cases_lt k (length slots)) [
         | inl below_k ↦
-            subst (λ (t : Slot). AreApart t (slot_at (slots ++ s ∷ []) k)) (sym (at_old j below_j))
-            (subst (AreApart (slot_at slots j)) (sym (at_old k below_k))
+            subst (λ (t : Slot). AreSlotsApart t (slot_at (slots ++ s ∷ []) k)) (sym (at_old j below_j))
+            (subst (AreSlotsApart (slot_at slots j)) (sym (at_old k below_k))
             (sound.apart j k differ (ap is_used (sym (at_old j below_j)) ∙ used_j) (ap is_used (sym (at_old k below_k)) ∙ used_k)))
         | inr past_k ↦
             (let here : k ≡ length slots = omega (arith, used_below (slots ++ s ∷ []) k used_k, length_push slots s) in
-            subst (λ (t : Slot). AreApart t (slot_at (slots ++ s ∷ []) k)) (sym (at_old j below_j))
-            (subst (AreApart (slot_at slots j)) (sym (at_new k here))
+            subst (λ (t : Slot). AreSlotsApart t (slot_at (slots ++ s ∷ []) k)) (sym (at_old j below_j))
+            (subst (AreSlotsApart (slot_at slots j)) (sym (at_new k here))
             (last_apart j below_j (ap is_used (sym (at_old j below_j)) ∙ used_j) (ap is_used (sym (at_new k here)) ∙ used_k))))
       ]
       | inr past_j ↦ elim (cases_lt k (length slots)) [
         | inl below_k ↦
             (let here : j ≡ length slots = omega (arith, used_below (slots ++ s ∷ []) j used_j, length_push slots s) in
-            subst (λ (t : Slot). AreApart t (slot_at (slots ++ s ∷ []) k)) (sym (at_new j here))
-            (subst (AreApart s) (sym (at_old k below_k)) (apart_swapped (slot_at slots k) s
+            subst (λ (t : Slot). AreSlotsApart t (slot_at (slots ++ s ∷ []) k)) (sym (at_new j here))
+            (subst (AreSlotsApart s) (sym (at_old k below_k)) (apart_swapped (slot_at slots k) s
             (last_apart k below_k (ap is_used (sym (at_old k below_k)) ∙ used_k) (ap is_used (sym (at_new j here)) ∙ used_j)))))
         | inr past_k ↦ absurd (differ (omega (arith, used_below (slots ++ s ∷ []) j used_j, used_below (slots ++ s ∷ []) k used_k, length_push slots s)))
       ]

@@ -1,8 +1,8 @@
 -- The blocks of the packages that a write leaves.
 use Rattle.std.proofs.Common.{◌≡◌, ◌≢◌, inl, inr, ℕ, ◌-◌, ◌<◌, ◌≤◌, List, length, take, drop, true, false, Some, refl, sym, ap, ◌∙◌, subst, arith, set}
-use Rattle.rpm_pkgdb.proofs.Vocabulary.{AllStay, AreSound, blocks_of, blocks_with, CanGrow, CanMove, CanPut, end_of, free, has_number, HasSlot, Holds}
-use Rattle.rpm_pkgdb.proofs.Vocabulary.{is_used, IsPlaced, Keeps, moved, option_map, OthersStay, SameBlocks, Slot, slot_at, slot_for, slot_with, StandsAs}
-use Rattle.rpm_pkgdb.proofs.Vocabulary.{StandsSet, StandsWith, Store, Target, unit_at, Units, with_blob, with_free, with_generation, with_page, with_slot}
+use Rattle.rpm_pkgdb.proofs.Vocabulary.{AllStay, AreSound, blocks_of, blocks_with, CanGrow, CanMove, CanPut, end_of, free, has_number, HasSlot, HasUnits}
+use Rattle.rpm_pkgdb.proofs.Vocabulary.{is_used, IsPlaced, KeepsStore, moved_slot, option_map, OthersStay, SameBlocks, Slot, slot_at, slot_for, slot_with, RepresentsStore}
+use Rattle.rpm_pkgdb.proofs.Vocabulary.{RepresentsSlot, RepresentsPut, Store, Target, unit_at, Units, with_put, with_free, with_generation, with_page, with_slot}
 use Rattle.std.proofs.lemmas.Bool.{cases_eq}
 use Rattle.std.proofs.lemmas.Bool.Decides.{nat_tests}
 use Rattle.rpm_pkgdb.proofs.BlobMaps.{same_part, other_number}
@@ -59,15 +59,16 @@ module _ (a b : Units) (pages : ℕ) where
 -- ---- the changes
 
 -- another generation
-pub raised_stay : (st : Store) (generation : ℕ) (file image : Units) → 1 ≤ st.pages → Keeps file st → StandsAs (with_generation generation st) file image
+pub raised_stay : (st : Store) (generation : ℕ) (file image : Units) → 1 ≤ st.pages → KeepsStore file st
+    → RepresentsStore (with_generation generation st) file image
     → AllStay st file (with_generation generation st) image
 raised_stay st generation file image some keeps stands =
     let after = with_generation generation st in
     same_stay file image st.pages st after refl (made file st keeps some).sound (made image after stands.keeps some).sound stands.blocks
 
 -- a package less
-pub freed_stay : (st : Store) (k n : ℕ) (s : Slot) → HasSlot st k s → s.number ≡ n → (file image : Units) → Keeps file st
-    → StandsAs (with_free k st) file image → OthersStay n st file (with_free k st) image
+pub freed_stay : (st : Store) (k n : ℕ) (s : Slot) → HasSlot st k s → s.number ≡ n → (file image : Units) → KeepsStore file st
+    → RepresentsStore (with_free k st) file image → OthersStay n st file (with_free k st) image
 freed_stay st k n s has number file image keeps stands m differs =
     let after = with_free k st in
     let here = made file st keeps has.made in
@@ -79,7 +80,7 @@ freed_stay st k n s has number file image keeps stands m differs =
     stands.blocks j i (ap is_used stays ∙ used) (subst (λ (t : Slot). t.offset ≤ i) (sym stays) from) (subst (λ (t : Slot). i < end_of t) (sym stays) to))
 
 -- a page more
-pub grown_stay : (st : Store) → CanGrow st → (file image : Units) → Keeps file st → StandsAs (with_page st) file image
+pub grown_stay : (st : Store) → CanGrow st → (file image : Units) → KeepsStore file st → RepresentsStore (with_page st) file image
     → AllStay st file (with_page st) image
 grown_stay st can file image keeps stands n =
     let after = with_page st in
@@ -105,14 +106,14 @@ grown_stay st can file image keeps stands n =
     stands.blocks k i (ap is_used stays ∙ u) (subst (λ (t : Slot). t.offset ≤ i) (sym stays) low) (subst (λ (t : Slot). i < end_of t) (sym stays) high))
 
 -- a package's blocks moved
-module _ (st : Store) (place : ℕ) (old : Slot) (to : ℕ) (can : CanMove st place old to) (file : Units) (keeps : Keeps file st) where
+module _ (st : Store) (place : ℕ) (old : Slot) (to : ℕ) (can : CanMove st place old to) (file : Units) (keeps : KeepsStore file st) where
   abbrev s : Slot
-  s = moved old to
+  s = moved_slot old to
 
   abbrev us : Units
   us = blocks_of old file
 
-  pub moved_stay : (image : Units) → StandsSet st place s us file image → AllStay st file (with_slot place s st) image
+  pub moved_stay : (image : Units) → RepresentsSlot st place s us file image → AllStay st file (with_slot place s st) image
   moved_stay image stands m =
       let after = with_slot place s st in
       let here = made file st keeps can.slot.made in
@@ -137,17 +138,17 @@ module _ (st : Store) (place : ℕ) (old : Slot) (to : ℕ) (can : CanMove st pl
             ∙ sym (ap (λ (i : ℕ). blocks_with i st file) same))
       ]
     where
-      held_whole : (image : Units) (to : ℕ) (us : Units) → length us ≡ old.count → Holds image to us → take old.count (drop to image) ≡ us
+      held_whole : (image : Units) (to : ℕ) (us : Units) → length us ≡ old.count → HasUnits image to us → take old.count (drop to image) ≡ us
       held_whole image to us long holds =
           ap (λ (n : ℕ). take n (drop to image)) (sym long)
           ∙ (ap (λ (n : ℕ). take n (drop to image)) (omega arith) ∙ ap (λ (n : ℕ). take (length us - 0) (drop n image)) (omega arith)
           ∙ held_part image to us 0 holds (omega arith))
 
 -- a package put
-pub put_stay : (st : Store) (target : Target) (g : ℕ) (old : Slot) (blob : List ℕ) → CanPut st target g old blob → (file image : Units) → Keeps file st
-    → StandsWith st target g blob file image → OthersStay target.number st file (with_blob target st) image
+pub put_stay : (st : Store) (target : Target) (g : ℕ) (old : Slot) (blob : List ℕ) → CanPut st target g old blob → (file image : Units) → KeepsStore file st
+    → RepresentsPut st target g blob file image → OthersStay target.number st file (with_put target st) image
 put_stay st target g old blob can file image keeps stands m differs =
-    let after = with_blob target st in
+    let after = with_put target st in
     let here = made file st keeps can.made in
     let there = made image after stands.keeps can.made in
     other_with file image st.pages st after target.place (slot_for target) can.target_is.below refl here.sound there.sound m

@@ -1,11 +1,11 @@
 -- A value that is written on a disk.
 use Rattle.std.proofs.Common.{◌≡◌, ℕ, ◌≤◌, List}
 use Rattle.rpm_outside.specs.declared.disk.Disk as disk
-use Rattle.rpm_pkgdb.proofs.Vocabulary.{BlobMap, blobs, IsPut, IsWritten, Keeps, pkg, Quiet, Store, Target, with_spare}
+use Rattle.rpm_pkgdb.proofs.Vocabulary.{BlobMap, blobs, IsPut, IsWritten, KeepsStore, pkg, Quiet, Store, Target, with_spare}
 use Rattle.rpm_pkgdb.proofs.ErasesTo.{stands_for}
 
 module _ {D : Type 0} (d : disk.Ghosts D) where
-  pub written : (at : D) (value : Store) (map : BlobMap) → 1 ≤ value.pages → Keeps (pkg d at) value → Quiet d at value → blobs (pkg d at) value ≡ map
+  pub written : (at : D) (value : Store) (map : BlobMap) → 1 ≤ value.pages → KeepsStore (pkg d at) value → Quiet d at value → blobs (pkg d at) value ≡ map
       → IsWritten d at value map
   written at value map some kept quiet is = record {
     kept = kept;

@@ -2,7 +2,7 @@
 use Rattle.std.proofs.Common.{◌≡◌, ℕ, ◌+◌, ◌-◌, ◌*◌, ◌/◌, ◌<◌, ◌≤◌, inl, inr, List, length, take, drop, replicate, sym, ap, ◌∙◌, arith, length-drop}
 use Rattle.std.proofs.lemmas.List.{same_lists, get_or-take, get_or-drop, get_or-replicate, length-take, length-replicate}
 use Rattle.std.proofs.lemmas.Bool.{cases_lt}
-use Rattle.rpm_pkgdb.proofs.Vocabulary.{blank, length-cut_up, put, put_before, put_inside, unit_at, unit_at-cut_up, Units, units_of}
+use Rattle.rpm_pkgdb.proofs.Vocabulary.{blank, length-cut_up, with_units, put_before, put_inside, unit_at, unit_at-cut_up, Units, units_of}
 
 abbrev pub zeros : ℕ → List ℕ
 zeros n = replicate n 0
@@ -19,7 +19,7 @@ zero_unit m n k inside within =
     ∙ sym (get_or-replicate 16 i 0 d lt))
 
 -- units of zeros more
-pub zeros_more : (some n at from : ℕ) (old new : Units) → 16 * some ≤ n → new ≡ put at (units_of (take (16 * some) (zeros n))) old
+pub zeros_more : (some n at from : ℕ) (old new : Units) → 16 * some ≤ n → new ≡ with_units at (units_of (take (16 * some) (zeros n))) old
     → ((i : ℕ) → from ≤ i → i < at → unit_at old i ≡ blank)
     → (i : ℕ) → from ≤ i → i < at + some → unit_at new i ≡ blank
 zeros_more some n at from old new fits is before i low high =
@@ -30,7 +30,7 @@ zeros_more some n at from old new fits is before i low high =
     ap (λ (u : Units). unit_at u i) is ∙ elim (cases_lt i at) [
       | inl below ↦ put_before at (units_of bytes) old i below ∙ before i low below
       | inr past ↦
-          ap (unit_at (put at (units_of bytes) old)) (omega arith)
+          ap (unit_at (with_units at (units_of bytes) old)) (omega arith)
           ∙ put_inside at (units_of bytes) old (i - at) (omega arith)
           ∙ unit_at-cut_up (length bytes / 16) bytes (i - at) (omega arith)
           ∙ zero_unit (16 * some) n (i - at) (omega arith) fits

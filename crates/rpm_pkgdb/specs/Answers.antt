@@ -18,8 +18,8 @@ AnswerIs shows said (Err DiskFault) = Unit {0}
 AnswerIs shows said (Err NoMemory) = Unit {0}
 
 -- the bytes that a call gave
-abbrev pub given : Vec ℕ Global → List ℕ
-given v = v.items
+abbrev pub given_bytes : Vec ℕ Global → List ℕ
+given_bytes v = v.items
 
 -- the bytes of a blob that was checked, and what the check says
 abbrev pub given_blob : Checked → List ℕ
@@ -50,8 +50,8 @@ AreParts n s file (Err DiskFault) = Unit {0}
 AreParts n s file (Err NoMemory) = Unit {0}
 
 -- the fault doesn't lie in the file
-abbrev pub IsOutside : GetFault → Type 0
-IsOutside NoSuch = ⊥
-IsOutside Bad = ⊥
-IsOutside DiskFault = Unit {0}
-IsOutside NoMemory = Unit {0}
+abbrev pub IsOutsideBlob : GetFault → Type 0
+IsOutsideBlob NoSuch = ⊥
+IsOutsideBlob Bad = ⊥
+IsOutsideBlob DiskFault = Unit {0}
+IsOutsideBlob NoMemory = Unit {0}

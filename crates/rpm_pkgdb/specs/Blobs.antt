@@ -1,5 +1,6 @@
 -- What stands in the blocks of a slot.
-use Rattle.std.specs.Prelude.{ℕ, ◌+◌, ◌-◌, ◌/◌, List, length, take, drop, map, Bool, not, ◌&&◌, ◌==◌, nat_lt, if◌then◌else◌, Option, Some, None, codes}
+use Rattle.std.specs.Prelude.{ℕ, ◌+◌, ◌-◌, ◌/◌, List, length, take, drop, map, Bool, not, ◌&&◌, ◌==◌, nat_lt}
+use Rattle.std.specs.Prelude.{if◌then◌else◌, Option, Some, None, codes}
 use Rattle.std.specs.List.{filter}
 use Rattle.std.specs.Option.{option_map}
 use Rattle.std.specs.Int.{w32, from_le_bytes}
@@ -7,7 +8,7 @@ use Rattle.std.specs.Ordering.{nat_cmp}
 use Rattle.std.specs.FinMap as finite
 use Rattle.rpm_outside.specs.Files.{Units, unit_at, bytes_of}
 use Rattle.rpm_pkgdb.specs.declared.slot.Slot.{Slot}
-use Rattle.rpm_pkgdb.specs.Words.{word, begins}
+use Rattle.rpm_pkgdb.specs.Words.{word, begins_with_word}
 use Rattle.rpm_pkgdb.specs.Slots.{is_used, slot_with}
 use Rattle.rpm_pkgdb.specs.Store.{Store}
 
@@ -26,7 +27,8 @@ tail rest = drop (length rest - 12) rest
 
 -- the head is of this number, and its length is lawful and that of so many blocks; its generation isn't looked at
 unfoldable pub is_head : ℕ → ℕ → List ℕ → Bool
-is_head n count head = begins (codes "BlbS") head && (word 1 head == n && (not (nat_lt 68157432 (word 3 head)) && count == blocks_for (word 3 head)))
+is_head n count head = begins_with_word (codes "BlbS") head
+    && (word 1 head == n && (not (nat_lt 68157432 (word 3 head)) && count == blocks_for (word 3 head)))
 
 -- the tail repeats the length and ends in its magic
 unfoldable pub is_tail : ℕ → List ℕ → Bool
@@ -38,7 +40,8 @@ is_framed n count f = is_head n count f.head && is_tail (word 3 f.head) f.rest
 
 -- the blocks that a slot names
 abbrev pub blocks_at : Slot → Units → Frame
-blocks_at s file = record { head = unit_at file s.offset; rest = bytes_of (take (s.count - 1) (drop (s.offset + 1) file)) }
+blocks_at s file =
+    record { head = unit_at file s.offset; rest = bytes_of (take (s.count - 1) (drop (s.offset + 1) file)) }
 
 -- what stands in the blocks of this number's slot, and None where its framing is broken
 abbrev pub frame_of : ℕ → Slot → Units → Option Frame
@@ -53,9 +56,9 @@ abbrev pub blob_in : Frame → List ℕ
 blob_in f = take (word 3 f.head) f.rest
 
 -- a slot's number, and its blob; None where the framing is broken
-abbrev pub entry_of : Units → Slot → ℕ × Option (List ℕ)
-entry_of file s = (s.number, option_map blob_in (frame_of s.number s file))
+abbrev pub entry_of_slot : Units → Slot → ℕ × Option (List ℕ)
+entry_of_slot file s = (s.number, option_map blob_in (frame_of s.number s file))
 
 -- the map of all numbers to their blobs
 unfoldable pub blobs : Units → Store → finite.FinMap nat_cmp (Option (List ℕ))
-blobs file store = finite.from_entries (map (entry_of file) (filter is_used store.slots))
+blobs file store = finite.from_entries (map (entry_of_slot file) (filter is_used store.slots))

@@ -1,5 +1,6 @@
 -- How many bytes the calls read: 16 for each block.
-use Rattle.std.proofs.Common.{◌≡◌, ℕ, ◌+◌, ◌*◌, ◌<◌, ◌≤◌, List, [], ◌∷◌, length, Bool, true, false, ◌&&◌, nat_le, if◌then◌else◌, Option, Some, None, inl, inr, arith}
+use Rattle.std.proofs.Common.{◌≡◌, ℕ, ◌+◌, ◌*◌, ◌<◌, ◌≤◌, List, [], ◌∷◌, length, Bool, true, false, ◌&&◌, nat_le}
+use Rattle.std.proofs.Common.{if◌then◌else◌, Option, Some, None, inl, inr, arith}
 use Rattle.std.specs.List.{filter, sum_by}
 use Rattle.std.proofs.lemmas.List.Sums.{sum_by-cons}
 use Rattle.std.proofs.lemmas.Bool.{cases_Bool}
@@ -19,7 +20,8 @@ head_cost None head = 4096 * word 3 head
 
 -- what opening reads at most of this file
 abbrev pub opening_cost : Units → ℕ
-opening_cost file = if is_blank file then 16 else head_cost (head_reason (length file) (unit_at file 0)) (unit_at file 0)
+opening_cost file =
+    if is_blank file then 16 else head_cost (head_reason (length file) (unit_at file 0)) (unit_at file 0)
 
 -- the bytes of a package's blocks, none where there is no slot
 abbrev pub cost_of : Option Slot → ℕ
@@ -49,14 +51,16 @@ cost_all store = 16 * block_count (filter is_used store.slots)
 -- ---- laws
 
 -- one slot more
-counted : (p : Slot → Bool) (s : Slot) (ss : List Slot) → block_count (filter p (s ∷ ss)) ≡ (if p s then s.count else 0) + block_count (filter p ss)
+counted : (p : Slot → Bool) (s : Slot) (ss : List Slot)
+    → block_count (filter p (s ∷ ss)) ≡ (if p s then s.count else 0) + block_count (filter p ss)
 counted p s ss = elim (cases_Bool (p s)) [
   | inl passes ↦ rw passes (sum_by-cons (λ t. t.count) s (filter p ss))
   | inr fails ↦ rw fails (omega arith)
 ]
 
 -- a test that passes no more slots
-fewer : (p q : Slot → Bool) → ((s : Slot) → p s ≡ true → q s ≡ true) → (slots : List Slot) → block_count (filter p slots) ≤ block_count (filter q slots)
+fewer : (p q : Slot → Bool) → ((s : Slot) → p s ≡ true → q s ≡ true) → (slots : List Slot)
+    → block_count (filter p slots) ≤ block_count (filter q slots)
 fewer p q also [] = omega arith
 fewer p q also (s ∷ ss) = rw (counted p s ss, counted q s ss) (elim (cases_Bool (p s)) [
   | inl passes ↦ (let too = also s passes in rw (passes, too) (omega (arith, fewer p q also ss)))
@@ -72,16 +76,20 @@ up_to-more n m below s up = grind (arith, nat_tests)
 up_to-itself : (n m : ℕ) → n < m → (s : Slot) → has_number m s ≡ true → (is_up_to m s ≡ true) × (is_up_to n s ≡ false)
 up_to-itself n m below s is = (grind (arith, nat_tests), grind (arith, nat_tests))
 
-to-more : (n m : ℕ) → n < m → (slots : List Slot) → 16 * block_count (filter (is_up_to n) slots) + cost_of (slot_with m slots) ≤ 16 * block_count
+to-more : (n m : ℕ) → n < m → (slots : List Slot)
+    → 16 * block_count (filter (is_up_to n) slots) + cost_of (slot_with m slots) ≤ 16 * block_count
     (filter (is_up_to m) slots)
 to-more n m below [] = omega arith
-to-more n m below (s ∷ ss) = rw (counted (is_up_to n) s ss, counted (is_up_to m) s ss) (elim (cases_Bool (has_number m s)) [
-  | inl here ↦ (let t = up_to-itself n m below s here in rw (here, t.0, t.1) (omega (arith, fewer (is_up_to n) (is_up_to m) (up_to-more n m below) ss)))
-  | inr other ↦ rw other (elim (cases_Bool (is_up_to n s)) [
-    | inl passes ↦ (let too = up_to-more n m below s passes in rw (passes, too) (omega (arith, to-more n m below ss)))
-    | inr fails ↦ rw fails (omega (arith, to-more n m below ss))
-  ])
-])
+to-more n m below (s ∷ ss) =
+    rw (counted (is_up_to n) s ss, counted (is_up_to m) s ss) (elim (cases_Bool (has_number m s)) [
+      | inl here ↦ (let t = up_to-itself n m below s here in
+          rw (here, t.0, t.1) (omega (arith, fewer (is_up_to n) (is_up_to m) (up_to-more n m below) ss)))
+      | inr other ↦ rw other (elim (cases_Bool (is_up_to n s)) [
+        | inl passes ↦ (let too = up_to-more n m below s passes in
+            rw (passes, too) (omega (arith, to-more n m below ss)))
+        | inr fails ↦ rw fails (omega (arith, to-more n m below ss))
+      ])
+    ])
 
 -- a number costs no more than what it adds to those below it
 pub cost_to_more : (store : Store) (n m : ℕ) → n < m → cost_to n store + cost m store ≤ cost_to m store

@@ -1,40 +1,40 @@
--- Packages.db on a disk, in short words: what it holds, what a value keeps of it, and what stops leave of it.
+-- Packages.db on a disk, in short words: what it holds, what a value keeps of it, and what crashes leave of it.
 use Rattle.std.specs.Prelude.{◌≡◌, ◌≤◌, false, IsTrue}
 use Rattle.rpm_outside.specs.declared.disk.Disk as disk
 use Rattle.rpm_outside.specs.declared.disk.File.TheVariants.{Pkg}
-use Rattle.rpm_outside.specs.Changes.{Stops}
+use Rattle.rpm_outside.specs.Changes.{IsTornOnly}
 use Rattle.rpm_outside.specs.Files.{Units, Files}
-use Rattle.rpm_outside.specs.Frame.{images, LeavesIn}
+use Rattle.rpm_outside.specs.Frame.{images, CrashLeaves}
 use Rattle.rpm_pkgdb.specs.Blobs.{blobs}
-use Rattle.rpm_pkgdb.specs.Quiet.{BlobMap, IsQuiet, StandsFor}
-use Rattle.rpm_pkgdb.specs.Store.{Store, Keeps}
+use Rattle.rpm_pkgdb.specs.Quiet.{BlobMap, IsQuiet, Represents}
+use Rattle.rpm_pkgdb.specs.Store.{Store, KeepsStore}
 
 module _ {D : Type 0} (d : disk.Ghosts D) where
   -- the units of the file
   abbrev pub pkg : D → Units
   pkg at = (d.files at).pkg
 
-  -- each stop from now on leaves the value
+  -- each crash from now on leaves the value
   abbrev pub Quiet : D → Store → Type 0
   Quiet at value = IsQuiet value (d.files at) (images d at)
 
-  -- a stop in between leaves a file of which this holds
-  abbrev pub StopsIn : D → D → (Units → Type 0) → Type 0
-  StopsIn old new P = LeavesIn d old new (Stops Pkg P (images d old))
+  -- a crash in between leaves a file of which this holds
+  abbrev pub CrashLeavesFile : D → D → (Units → Type 0) → Type 0
+  CrashLeavesFile old new P = CrashLeaves d old new (IsTornOnly Pkg P (images d old))
 
   -- the value is made and going, and the file says it
-  pub record IsReady (at : D) (value : Store) : Type 0 where
+  pub record IsWritable (at : D) (value : Store) : Type 0 where
     pub going : value.is_stopped ≡ false
     pub made : 1 ≤ value.pages
-    pub keeps : IsTrue d.tells → Keeps (pkg at) value
+    pub keeps : IsTrue d.tells → KeepsStore (pkg at) value
 
   -- the value is written, with these blobs
   pub record IsWritten (at : D) (value : Store) (map : BlobMap) : Type 0 where
     -- the file says it
-    pub kept : Keeps (pkg at) value
-    -- each stop from now on leaves it
+    pub kept : KeepsStore (pkg at) value
+    -- each crash from now on leaves it
     pub quiet : Quiet at value
     -- and these blobs
     pub stands : (image : Files) → images d at image
-        → StandsFor value.generation value.field (blobs (pkg at) value) image.pkg
+        → Represents value.generation value.field (blobs (pkg at) value) image.pkg
     pub blobs_are : blobs (pkg at) value ≡ map

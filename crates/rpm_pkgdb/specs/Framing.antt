@@ -21,9 +21,10 @@ unfoldable pub tail_of : ℕ → ℕ → List ℕ
 tail_of sum size = bytes_of_word sum ++ bytes_of_word size ++ codes "BlbE"
 
 -- what the checksum is of
-abbrev pub summed : ℕ → ℕ → List ℕ → List ℕ
-summed n generation blob = head_of n generation (length blob) ++ (blob ++ padding (length blob))
+abbrev pub summed_bytes : ℕ → ℕ → List ℕ → List ℕ
+summed_bytes n generation blob = head_of n generation (length blob) ++ (blob ++ padding (length blob))
 
 -- head, bytes, zeros and tail
 abbrev pub framed : ℕ → ℕ → List ℕ → List ℕ
-framed n generation blob = summed n generation blob ++ tail_of (adler (summed n generation blob)) (length blob)
+framed n generation blob =
+    summed_bytes n generation blob ++ tail_of (adler (summed_bytes n generation blob)) (length blob)

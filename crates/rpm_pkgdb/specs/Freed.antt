@@ -13,8 +13,10 @@ pub record HasBlock (slots : List Slot) (i : ℕ) : Type 0 where
 
 -- free blocks from this one on that were zeros or a slot's are zeros
 abbrev pub AreFreed : ℕ → List Slot → Units → List Slot → Units → Type 0
-AreFreed end old before new after = (i : ℕ) → HasBlock old i ⊎ (unit_at before i ≡ blank) → end ≤ i → ¬ HasBlock new i → unit_at after i ≡ blank
+AreFreed end old before new after = (i : ℕ) → HasBlock old i ⊎ (unit_at before i ≡ blank) → end ≤ i → ¬ HasBlock new i
+    → unit_at after i ≡ blank
 
 -- blocks from this one on that were zeros outside of a range stay zeros
 abbrev pub KeepsBlank : ℕ → ℕ → ℕ → Units → Units → Type 0
-KeepsBlank end at n old new = (i : ℕ) → end ≤ i → (i < at) ⊎ (at + n ≤ i) → unit_at old i ≡ blank → unit_at new i ≡ blank
+KeepsBlank end at n old new = (i : ℕ) → end ≤ i → (i < at) ⊎ (at + n ≤ i) → unit_at old i ≡ blank
+    → unit_at new i ≡ blank

@@ -1,5 +1,7 @@
--- A slot page more: the used ranges that begin before its end move after it, one after the other, and its slots are free.
-use Rattle.std.specs.Prelude.{◌≡◌, ◌≢◌, ℕ, ◌+◌, ◌*◌, ◌<◌, ◌≤◌, List, [], ◌∷◌, ◌++◌, slice_set, replicate, true, Bool, Option, Some, None}
+-- A slot page more: the used ranges that begin before its end move after it, one after the other, and its slots are
+-- free.
+use Rattle.std.specs.Prelude.{◌≡◌, ◌≢◌, ℕ, ◌+◌, ◌*◌, ◌<◌, ◌≤◌, List, [], ◌∷◌, ◌++◌, slice_set, replicate, true, Bool}
+use Rattle.std.specs.Prelude.{Option, Some, None}
 use Rattle.std.specs.List.{sum_by}
 use Rattle.rpm_pkgdb.specs.declared.slot.Slot.{Slot}
 use Rattle.rpm_pkgdb.specs.declared.added_page.Move.{Move}
@@ -8,12 +10,12 @@ use Rattle.rpm_pkgdb.specs.Store.{Store}
 use Rattle.rpm_pkgdb.specs.Plans.{IsLeast, AreAllUsed}
 
 -- a slot whose blocks stand elsewhere
-abbrev pub moved : Slot → ℕ → Slot
-moved old to = record old { offset = to }
+abbrev pub moved_slot : Slot → ℕ → Slot
+moved_slot old to = record old { offset = to }
 
 -- the slots after a move
 abbrev pub after_move : List Slot → Move → List Slot
-after_move slots m = slice_set slots m.place (moved (slot_at slots m.place) m.to)
+after_move slots m = slice_set slots m.place (moved_slot (slot_at slots m.place) m.to)
 
 -- the slots after a list of moves
 abbrev pub after_moves : List Slot → List Move → List Slot
@@ -24,7 +26,8 @@ after_moves slots (m ∷ moves) = after_moves (after_move slots m) moves
 pub record IsNextMove (slots : List Slot) (end : ℕ) (m : Move) : Type 0 where
   pub used : is_used (slot_at slots m.place) ≡ true
   pub before : (slot_at slots m.place).offset < end
-  pub first : (j : ℕ) → j ≢ m.place → is_used (slot_at slots j) ≡ true → (slot_at slots m.place).offset < (slot_at slots j).offset
+  pub first : (j : ℕ) → j ≢ m.place → is_used (slot_at slots j) ≡ true
+      → (slot_at slots m.place).offset < (slot_at slots j).offset
   pub least : IsLeast slots (slot_at slots m.place).count end m.to
 
 -- each of these moves is the next one after those before it

@@ -20,7 +20,8 @@ moves_of (Some page) = Some page.moves.items
 abbrev pub HoldsPage : Store → Option Page → Type 0
 HoldsPage value None = Unit {0}
 HoldsPage value (Some page) =
-    (page.slots.items ≡ (grown (Some page.moves.items) value).slots) × AreRangesOf page.used.ranges page.slots.items × (1 ≤ page.used.spare)
+    (page.slots.items ≡ (grown (Some page.moves.items) value).slots) × AreRangesOf page.used.ranges page.slots.items
+    × (1 ≤ page.used.spare)
 
 -- a plan that was made of these slots and this number field
 pub record IsPlan (value : Store) (plan : Plan) : Type 0 where
@@ -46,8 +47,11 @@ pub record CantMove (slots : List Slot) (end : ℕ) : Type 0 where
       → (slot_at (after_moves slots moves) place).offset ≤ (slot_at (after_moves slots moves) j).offset
   pub nowhere : FitsNowhere (after_moves slots moves) (slot_at (after_moves slots moves) place).count end
 
--- a blob of this length, under a new number or one that is there, finds no place: it fits nowhere, or a range in the way of its page doesn't
-pub data IsFull (value : Store) (is_new : Bool) (length : ℕ) : Type 0 where
+-- a blob of this length, under a new number or one that is there, finds no place: it fits nowhere, or a range in the
+-- way of its page doesn't
+pub data IsStoreFull (value : Store) (is_new : Bool) (length : ℕ) : Type 0 where
   NoRoom : (moves : Option (List Move)) → NeedsPage value is_new moves
-      → FitsNowhere (grown moves value).slots (blocks_for length) (256 * (grown moves value).pages) → IsFull value is_new length
-  NoMove : is_new ≡ true → AreAllUsed value.slots → CantMove value.slots (next_end value) → IsFull value is_new length
+      → FitsNowhere (grown moves value).slots (blocks_for length) (256 * (grown moves value).pages)
+      → IsStoreFull value is_new length
+  NoMove : is_new ≡ true → AreAllUsed value.slots → CantMove value.slots (next_end value)
+      → IsStoreFull value is_new length

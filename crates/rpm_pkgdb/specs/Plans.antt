@@ -17,19 +17,20 @@ abbrev pub AreAllUsed : List Slot → Type 0
 AreAllUsed slots = (k : ℕ) → k < length slots → is_used (slot_at slots k) ≡ true
 
 -- a count of blocks fits at a block when it ends by the limit, and none of them is a used slot's
-pub record Fits (slots : List Slot) (count start : ℕ) : Type 0 where
+pub record FitsSlots (slots : List Slot) (count start : ℕ) : Type 0 where
   pub ends : start + count ≤ 2 ^ 28
-  pub apart : (k : ℕ) → is_used (slot_at slots k) ≡ true → (start + count ≤ (slot_at slots k).offset) ⊎ (end_of (slot_at slots k) ≤ start)
+  pub apart : (k : ℕ) → is_used (slot_at slots k) ≡ true → (start + count ≤ (slot_at slots k).offset)
+      ⊎ (end_of (slot_at slots k) ≤ start)
 
 -- the least block from one on at which so many fit, and None where they fit nowhere
 pub record IsLeast (slots : List Slot) (count from start : ℕ) : Type 0 where
   pub from_on : from ≤ start
-  pub fits : Fits slots count start
-  pub least : (block : ℕ) → from ≤ block → block < start → ¬ Fits slots count block
+  pub fits : FitsSlots slots count start
+  pub least : (block : ℕ) → from ≤ block → block < start → ¬ FitsSlots slots count block
 
 -- a count of blocks has room at no place from a block on
 abbrev pub FitsNowhere : List Slot → ℕ → ℕ → Type 0
-FitsNowhere slots count from = (block : ℕ) → from ≤ block → ¬ Fits slots count block
+FitsNowhere slots count from = (block : ℕ) → from ≤ block → ¬ FitsSlots slots count block
 
 -- number, slot and blocks of a blob, as these slots and this number field ask for
 pub record IsTarget (value : Store) (target : Target) : Type 0 where

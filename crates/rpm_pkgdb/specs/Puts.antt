@@ -1,4 +1,4 @@
--- A package that is put, as one thing: what a put makes, and what stops leave meanwhile.
+-- A package that is put, as one thing: what a put makes, and what crashes leave meanwhile.
 use Rattle.std.specs.Prelude.{◌≡◌, ℕ, ◌+◌, ◌*◌, List, length, take, drop, true, false, Some}
 use Rattle.std.specs.FinMap as finite
 use Rattle.rpm_outside.specs.declared.disk.Disk as disk
@@ -6,7 +6,7 @@ use Rattle.rpm_outside.specs.Files.{units_of, unit_at}
 use Rattle.rpm_pkgdb.specs.declared.plan.Plan.{Plan}
 use Rattle.rpm_pkgdb.specs.declared.plan.Target.{Target}
 use Rattle.rpm_pkgdb.specs.Blobs.{blobs, blocks_for}
-use Rattle.rpm_pkgdb.specs.Frame.{pkg, StopsIn, IsWritten}
+use Rattle.rpm_pkgdb.specs.Frame.{pkg, CrashLeavesFile, IsWritten}
 use Rattle.rpm_pkgdb.specs.Framing.{framed, next_unit}
 use Rattle.rpm_pkgdb.specs.Freed.{AreFreed}
 use Rattle.rpm_pkgdb.specs.Placing.{put_in, replaced_by}
@@ -48,11 +48,11 @@ module _ {D : Type 0} (d : disk.Ghosts D) where
     -- the file ends where it did, or with the store
     pub reach : ReachesTo after (pkg d old) (pkg d new)
 
-  -- what stops leave while it is put
-  pub record PutStops (old new : D) (before : Store) (target : Target) (blob : List ℕ)
+  -- what crashes leave while it is put
+  pub record PutCrashes (old new : D) (before : Store) (target : Target) (blob : List ℕ)
       : Type 0 where
     -- the blobs from before, or with this one
-    pub images : StopsIn d old new (PutsTo before target blob (pkg d old))
+    pub images : CrashLeavesFile d old new (PutsTo before target blob (pkg d old))
     -- the other packages' blocks byte for byte, and its own from before or the new ones
-    pub left : StopsIn d old new (StaysBut target.number
+    pub left : CrashLeavesFile d old new (StaysBut target.number
         (Some (units_of (framed target.number before.generation blob))) before (pkg d old))

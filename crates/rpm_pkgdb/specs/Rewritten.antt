@@ -4,7 +4,7 @@ use Rattle.std.specs.FinMap as finite
 use Rattle.rpm_outside.specs.declared.disk.Disk as disk
 use Rattle.rpm_outside.specs.Files.{unit_at}
 use Rattle.rpm_pkgdb.specs.Blobs.{blobs}
-use Rattle.rpm_pkgdb.specs.Frame.{pkg, StopsIn, IsWritten}
+use Rattle.rpm_pkgdb.specs.Frame.{pkg, CrashLeavesFile, IsWritten}
 use Rattle.rpm_pkgdb.specs.Framing.{next_unit}
 use Rattle.rpm_pkgdb.specs.Freed.{KeepsBlank}
 use Rattle.rpm_pkgdb.specs.Reaches.{ReachesTo}
@@ -29,12 +29,12 @@ module _ {D : Type 0} (d : disk.Ghosts D) where
     -- the file got no longer
     pub reach : length (pkg d new) ≤ length (pkg d old)
 
-  -- what stops leave while it is erased
-  pub record EraseStops (old new : D) (before : Store) (n : ℕ) : Type 0 where
+  -- what crashes leave while it is erased
+  pub record EraseCrashes (old new : D) (before : Store) (n : ℕ) : Type 0 where
     -- the blobs from before, or without this one
-    pub images : StopsIn d old new (ErasesTo before n (pkg d old))
+    pub images : CrashLeavesFile d old new (ErasesTo before n (pkg d old))
     -- the other packages' blocks byte for byte, and its own from before or none
-    pub left : StopsIn d old new (StaysBut n None before (pkg d old))
+    pub left : CrashLeavesFile d old new (StaysBut n None before (pkg d old))
 
   -- the generation was raised
   pub record IsRaised (old new : D) (before after : Store) : Type 0 where

@@ -1,5 +1,6 @@
 -- The slots of a store.
-use Rattle.std.specs.Prelude.{ℕ, ◌+◌, ◌<◌, List, [], ◌∷◌, map, Bool, not, ◌&&◌, ◌==◌, nat_lt, if◌then◌else◌, Option, max, slice_index_or}
+use Rattle.std.specs.Prelude.{ℕ, ◌+◌, ◌<◌, List, [], ◌∷◌, map, Bool, not, ◌&&◌, ◌==◌, nat_lt, if◌then◌else◌, Option}
+use Rattle.std.specs.Prelude.{max, slice_index_or}
 use Rattle.std.specs.List.{find}
 use Rattle.rpm_outside.specs.Files.{Units}
 use Rattle.rpm_pkgdb.specs.declared.slot.Slot.{Slot}
@@ -30,8 +31,8 @@ abbrev pub end_of : Slot → ℕ
 end_of s = s.offset + s.count
 
 -- the blocks of t, which is used, meet those of s
-abbrev pub meets : Slot → Slot → Bool
-meets s t = is_used t && (nat_lt s.offset (end_of t) && nat_lt t.offset (end_of s))
+abbrev pub slots_meet : Slot → Slot → Bool
+slots_meet s t = is_used t && (nat_lt s.offset (end_of t) && nat_lt t.offset (end_of s))
 
 -- whether a slot has this package
 abbrev pub has_number : ℕ → Slot → Bool

@@ -6,7 +6,8 @@ use Rattle.rpm_outside.specs.Files.{Units, unit_at}
 use Rattle.rpm_pkgdb.specs.Slots.{slot_with}
 use Rattle.rpm_pkgdb.specs.Store.{Store, store}
 
--- the units outside a range are as before; the file didn't get shorter, and ends where it did or by the end of the range
+-- the units outside a range are as before; the file didn't get shorter, and ends where it did or by the end of the
+-- range
 pub record SameOutside (at n : ℕ) (old new : Units) : Type 0 where
   pub below : (i : ℕ) → i < at → unit_at new i ≡ unit_at old i
   pub above : (i : ℕ) → at + n ≤ i → unit_at new i ≡ unit_at old i

@@ -1,5 +1,6 @@
 -- What Packages.db says: its slots, or its first damage.
-use Rattle.std.specs.Prelude.{◌≡◌, ℕ, ◌+◌, List, [], length, Bool, false, not, if◌then◌else◌, Option, Some, None, Result, Ok, Err, max}
+use Rattle.std.specs.Prelude.{◌≡◌, ℕ, ◌+◌, List, [], length, Bool, false, not, if◌then◌else◌, Option, Some, None}
+use Rattle.std.specs.Prelude.{Result, Ok, Err, max}
 use Rattle.std.specs.List.{list_any}
 use Rattle.rpm_outside.specs.Files.{Units, unit_at}
 use Rattle.rpm_pkgdb.specs.declared.slot.Slot.{Slot}
@@ -9,10 +10,10 @@ use Rattle.rpm_pkgdb.specs.declared.slot.OpenFault.{OpenFault}
 use Rattle.rpm_pkgdb.specs.declared.slot.OpenFault.TheVariants.{Damaged, DiskFault, NoMemory}
 use Rattle.rpm_pkgdb.specs.Words.{word, is_nonzero}
 use Rattle.rpm_pkgdb.specs.Slots.{slots_in, greatest_number}
-use Rattle.rpm_pkgdb.specs.Damages.{damage_at, head_reason, table, table_fault}
+use Rattle.rpm_pkgdb.specs.Damages.{damage_at, head_reason, slot_units, table_fault}
 
--- A blank file is the store of no pages, whose next number is 1. The last two are of a value alone: how many ranges it can still
--- take without memory, and whether a writing call failed. A file says 0 and false.
+-- A blank file is the store of no pages, whose next number is 1. The last two are of a value alone: how many ranges it
+-- can still take without memory, and whether a writing call failed. A file says 0 and false.
 pub record Store : Type 0 where
   pub generation : ℕ
   pub pages : ℕ
@@ -23,7 +24,15 @@ pub record Store : Type 0 where
 
 -- what the file says of a store
 abbrev pub in_file : Store → Store
-in_file store = record { generation = store.generation; pages = store.pages; field = store.field; slots = store.slots; spare = 0; is_stopped = false }
+in_file store =
+    record {
+      generation = store.generation;
+      pages = store.pages;
+      field = store.field;
+      slots = store.slots;
+      spare = 0;
+      is_stopped = false;
+    }
 
 -- the greater of the field and one above the greatest number
 abbrev pub next_number : Store → ℕ
@@ -44,7 +53,7 @@ made_store pages file =
       generation = word 2 (unit_at file 0);
       pages = pages;
       field = word 0 (unit_at file 1);
-      slots = slots_in (table pages file);
+      slots = slots_in (slot_units pages file);
       spare =
           0;
       is_stopped = false;
@@ -56,13 +65,13 @@ unless None x = Ok x
 unless (Some e) x = Err e
 
 -- the store of so many pages, or the first damage of its table
-abbrev pub store_of : ℕ → Units → Result Store Damage
-store_of pages file = unless (table_fault pages (length file) (table pages file)) (made_store pages file)
+abbrev pub store_of_pages : ℕ → Units → Result Store Damage
+store_of_pages pages file = unless (table_fault pages (length file) (slot_units pages file)) (made_store pages file)
 
 -- the store, unless its head has a fault
 abbrev pub made_or_damaged : Option Reason → Units → Result Store Damage
 made_or_damaged (Some reason) file = Err (damage_at 0 reason)
-made_or_damaged None file = store_of (word 3 (unit_at file 0)) file
+made_or_damaged None file = store_of_pages (word 3 (unit_at file 0)) file
 
 -- the store that Packages.db holds, or its first damage
 unfoldable pub store : Units → Result Store Damage
@@ -71,8 +80,8 @@ store file =
     else made_or_damaged (head_reason (length file) (unit_at file 0)) file
 
 -- what a value keeps of a file is what the file says
-abbrev pub Keeps : Units → Store → Type 0
-Keeps file value = store file ≡ Ok (in_file value)
+abbrev pub KeepsStore : Units → Store → Type 0
+KeepsStore file value = store file ≡ Ok (in_file value)
 
 -- ---- answers
 
@@ -84,10 +93,10 @@ OpenIs said (Err DiskFault) = Unit {0}
 OpenIs said (Err NoMemory) = Unit {0}
 
 -- a fault of opening names the damage, where it names one
-abbrev pub Says : OpenFault → Option Damage → Type 0
-Says (Damaged d) fault = fault ≡ Some d
-Says DiskFault fault = Unit {0}
-Says NoMemory fault = Unit {0}
+abbrev pub DamageIs : OpenFault → Option Damage → Type 0
+DamageIs (Damaged d) fault = fault ≡ Some d
+DamageIs DiskFault fault = Unit {0}
+DamageIs NoMemory fault = Unit {0}
 
 -- a refusal of a call that doesn't take the disk names this fault
 abbrev pub SaysHere : OpenFault → Option Damage → Type 0

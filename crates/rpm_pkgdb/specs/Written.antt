@@ -1,5 +1,6 @@
 -- What writing calls leave of a store.
-use Rattle.std.specs.Prelude.{◌≡◌, ◌⊎◌, ℕ, ◌+◌, ◌<◌, ◌≤◌, List, map, slice_set, if◌then◌else◌, Option, Some, None, Ok, true, replicate}
+use Rattle.std.specs.Prelude.{◌≡◌, ◌⊎◌, ℕ, ◌+◌, ◌<◌, ◌≤◌, List, map, slice_set, if◌then◌else◌, Option, Some, None, Ok}
+use Rattle.std.specs.Prelude.{true, replicate}
 use Rattle.std.specs.FinMap as finite
 use Rattle.rpm_outside.specs.Files.{Units, unit_at, blank}
 use Rattle.rpm_pkgdb.specs.declared.slot.Slot.{Slot}
@@ -11,23 +12,23 @@ use Rattle.rpm_pkgdb.specs.Blobs.{blobs}
 use Rattle.rpm_pkgdb.specs.Plans.{slot_for}
 use Rattle.rpm_pkgdb.specs.Growing.{grown}
 use Rattle.rpm_pkgdb.specs.Planned.{moves_of}
-use Rattle.rpm_pkgdb.specs.Quiet.{StandsFor}
+use Rattle.rpm_pkgdb.specs.Quiet.{Represents}
 
 -- the value after a call of the disk failed
-abbrev pub stopped : Store → Store
-stopped value = record value { is_stopped = true }
+abbrev pub stopped_store : Store → Store
+stopped_store value = record value { is_stopped = true }
 
 -- the slots with this one free
 abbrev pub freed_slot : ℕ → Slot → Slot
 freed_slot n s = if has_number n s then free else s
 
 -- the slots, with that of a package free
-unfoldable pub freed : ℕ → List Slot → List Slot
-freed n slots = map (freed_slot n) slots
+unfoldable pub freed_slots : ℕ → List Slot → List Slot
+freed_slots n slots = map (freed_slot n) slots
 
 -- the value without the slot of a number
-abbrev pub erased : ℕ → Store → Store
-erased n value = record value { slots = freed n value.slots }
+abbrev pub without_number : ℕ → Store → Store
+without_number n value = record value { slots = freed_slots n value.slots }
 
 -- the blocks of a slot are zeros
 abbrev pub AreZeros : Option Slot → Units → Type 0
@@ -37,7 +38,8 @@ AreZeros (Some s) file = (i : ℕ) → s.offset ≤ i → i < end_of s → unit_
 -- what a crash leaves while a number is erased
 abbrev pub ErasesTo : Store → ℕ → Units → Units → Type 0
 ErasesTo value n file image =
-    StandsFor value.generation value.field (blobs file value) image ⊎ StandsFor value.generation value.field (finite.remove (blobs file value) n) image
+    Represents value.generation value.field (blobs file value) image
+    ⊎ Represents value.generation value.field (finite.remove (blobs file value) n) image
 
 -- the value with another generation
 abbrev pub with_generation : ℕ → Store → Store
@@ -46,7 +48,8 @@ with_generation generation value = record value { generation = generation }
 -- what a crash leaves while the generation becomes another
 abbrev pub RaisesTo : Store → ℕ → Units → Units → Type 0
 RaisesTo value generation file image =
-    StandsFor value.generation value.field (blobs file value) image ⊎ StandsFor generation value.field (blobs file value) image
+    Represents value.generation value.field (blobs file value) image
+    ⊎ Represents generation value.field (blobs file value) image
 
 -- the value once a database was made
 abbrev pub made_new : Store → Store
@@ -54,7 +57,7 @@ made_new value = record value { generation = 1; pages = 1; field = 1; slots = re
 
 -- what a crash leaves while a database is made
 abbrev pub MakesTo : Units → Type 0
-MakesTo image = (store image ≡ Ok blank_store) ⊎ StandsFor 1 1 finite.empty image
+MakesTo image = (store image ≡ Ok blank_store) ⊎ Represents 1 1 finite.empty image
 
 -- the value with room for so many
 abbrev pub with_spare : ℕ → Store → Store
@@ -74,16 +77,19 @@ abbrev pub with_next : Option ℕ → Store → Store
 with_next next value = record value { field = field_after next value.field }
 
 -- the value once a blob was put
-abbrev pub with_blob : Target → Store → Store
-with_blob target value = record (with_next (next_field target) value) { slots = slice_set value.slots target.place (slot_for target) }
+abbrev pub with_put : Target → Store → Store
+with_put target value =
+    record (with_next (next_field target) value) { slots = slice_set value.slots target.place (slot_for target) }
 
--- what a crash leaves while a blob is put: the blobs from before, with the number field from before or after, or those after, with that after
+-- what a crash leaves while a blob is put: the blobs from before, with the number field from before or after, or those
+-- after, with that after
 abbrev pub PutsTo : Store → Target → List ℕ → Units → Units → Type 0
 PutsTo value target blob file image =
-    StandsFor value.generation value.field (blobs file value) image
-    ⊎ (StandsFor value.generation (field_after (next_field target) value.field) (blobs file value) image
-    ⊎ StandsFor value.generation (field_after (next_field target) value.field) (finite.insert (blobs file value) target.number (Some blob)) image)
+    Represents value.generation value.field (blobs file value) image
+    ⊎ (Represents value.generation (field_after (next_field target) value.field) (blobs file value) image
+    ⊎ Represents value.generation (field_after (next_field target) value.field)
+    (finite.insert (blobs file value) target.number (Some blob)) image)
 
 -- the value once a plan was put
 abbrev pub with_plan : Plan → Store → Store
-with_plan plan value = with_blob plan.target (grown (moves_of plan.page) value)
+with_plan plan value = with_put plan.target (grown (moves_of plan.page) value)

@@ -6,7 +6,6 @@ pub mod Maps
 pub mod Tables
 pub mod Meetings
 pub mod Reading
-pub mod Runs
 pub mod Ranges
 pub mod Keeping
 pub mod Clear

@@ -1,13 +1,15 @@
 //! One slot page more: blocks are moved out of its way, and it is written.
 
 ghost use Rattle.std.specs.Prelude.{◌≡◌, ℕ, ◌+◌, ◌*◌, ◌^◌, ◌≤◌, ◌<◌, ◌⊎◌, IsTrue, length, OnOk, Some};
-ghost use Rattle.rpm_pkgdb.specs.Prelude.{Anything, AreBlocksMoved, AreMoved, BeforeOrAfter, CanAdd, CanGrowBy, CanGrowFrom, CanMove, CanMoveAll, end_of, Files, IsGrown, IsMovable, IsPageAdded, IsSettled, Keeps, move_at, moves_of, moving_cost, NoShorter, Pkg, pkg, Quiet, SameOutside, slot_at, StandsStill, StopsIn, Store, unit_at, WhileMoved, with_page, Writes};
+ghost use Rattle.rpm_pkgdb.specs.Prelude.{Anything, AreBlocksMoved, AreMoved, StoreBeforeOrAfter, CanAdd, CanGrowBy, CanGrowFrom, CanMove, CanMoveAll, end_of, Files, IsGrown, IsMovable, IsPageAdded, IsDurable, KeepsStore, move_at, moves_of, moving_cost, NoShorter, Pkg, pkg, Quiet, SameOutside, slot_at, RepresentsBlobs, CrashLeavesFile, Store, unit_at, WhileMoved, with_page, Writes};
 
 use crate::free_slots::write_free_slots;
 use crate::page_plan::Page;
 use crate::slot::Slot;
 use crate::store::PkgDb;
-use crate::units::{head_unit, read_units, settle, slot_unit, write_one, write_units, write_zeros};
+use crate::units::{
+    head_unit, read_units, slot_unit, sync_pkg, write_one, write_units, write_zeros,
+};
 use rpm_outside::{Disk, Failed};
 
 /// Copies units to a range that is apart, a page at a time.
@@ -19,7 +21,7 @@ pub fn copy_blocks<D: Disk>(disk: &mut D, from: u32, to: u32, count: u32) -> Res
     ensures copied { OnOk result (IsTrue D.tells → (i : ℕ) → i < count
         → unit_at (D.files disk.new).pkg (to + i) ≡ unit_at (D.files disk.old).pkg (from + i)) }
     ensures long { OnOk result (IsTrue D.tells → 0 < count → to + count ≤ length (D.files disk.new).pkg) }
-    ensures settled { OnOk result (IsTrue D.tells → IsSettled D.Disk Pkg disk.new) }
+    ensures durable { OnOk result (IsTrue D.tells → IsDurable D.Disk Pkg disk.new) }
     ensures writes { Writes D.Disk Pkg (SameOutside to count) (16 * count) result disk.old disk.new }
 {
     let mut page = [0u8; 4096];
@@ -31,7 +33,7 @@ pub fn copy_blocks<D: Disk>(disk: &mut D, from: u32, to: u32, count: u32) -> Res
         write_units(disk, to as u64 + done as u64, part)?;
         done += some;
     }
-    settle(disk)
+    sync_pkg(disk)
 }
 
 /// Moves the blocks of a slot, and makes the old ones zeros from a block on: those before it become a slot page.
@@ -49,7 +51,7 @@ pub fn move_blocks<D: Disk>(
     requires within { IsTrue D.tells → end_of old ≤ length (pkg D.Disk disk.old) }
     ensures moved { OnOk result (IsTrue D.tells → AreBlocksMoved D.Disk disk.old disk.new place old to zeros_from) }
     ensures images { IsTrue D.tells → (value : Store) → CanMove value place old to → Quiet D.Disk disk.old value
-        → StopsIn D.Disk disk.old disk.new (WhileMoved value place old to (pkg D.Disk disk.old)) }
+        → CrashLeavesFile D.Disk disk.old disk.new (WhileMoved value place old to (pkg D.Disk disk.old)) }
     ensures writes { Writes D.Disk Pkg NoShorter (16 * old.count) result disk.old disk.new }
 {
     let end = old.offset + old.count;
@@ -87,7 +89,7 @@ pub fn move_all<D: Disk>(
     ensures moved { OnOk result (IsTrue D.tells → AreMoved D.Disk disk.old disk.new slots.now moves.now moves.now zeros_from) }
     ensures images { IsTrue D.tells → (value : Store) → CanMoveAll slots.now moves.now value
         → Quiet D.Disk disk.old value
-        → StopsIn D.Disk disk.old disk.new (StandsStill value (pkg D.Disk disk.old)) }
+        → CrashLeavesFile D.Disk disk.old disk.new (RepresentsBlobs value (pkg D.Disk disk.old)) }
     ensures writes { Writes D.Disk Pkg NoShorter (moving_cost slots.now (Some moves.now)) result disk.old disk.new }
 {
     for k in 0..moves.len() {
@@ -103,8 +105,8 @@ pub fn add_page<D: Disk>(disk: &mut D, generation: u32, pages: u32) -> Result<()
     requires { 256 * (pages + 1) ≤ 2 ^ 28 }
     ensures added { OnOk result (IsTrue D.tells → IsPageAdded D.Disk disk.old disk.new generation pages) }
     ensures images { IsTrue D.tells → (value : Store) → CanGrowFrom generation pages value
-        → Quiet D.Disk disk.old value → StopsIn D.Disk disk.old disk.new
-        (BeforeOrAfter value (with_page value) (pkg D.Disk disk.old)) }
+        → Quiet D.Disk disk.old value → CrashLeavesFile D.Disk disk.old disk.new
+        (StoreBeforeOrAfter value (with_page value) (pkg D.Disk disk.old)) }
     ensures writes { Writes D.Disk Pkg Anything 0 result disk.old disk.new }
 {
     write_free_slots(disk, 256 * pages, 256)?;
@@ -116,10 +118,10 @@ impl PkgDb {
     fn grow_by<D: Disk>(&self, disk: &mut D, moves: &[Move]) -> Result<(), Failed>
         requires made { 1 ≤ self.now.pages }
         requires can { CanAdd self.now moves.now }
-        requires keeps { IsTrue D.tells → Keeps (pkg D.Disk disk.old) self.now }
+        requires keeps { IsTrue D.tells → KeepsStore (pkg D.Disk disk.old) self.now }
         ensures grown { OnOk result (IsTrue D.tells → IsGrown D.Disk disk.old disk.new self.now (Some moves.now)) }
         ensures images { IsTrue D.tells → Quiet D.Disk disk.old self.now
-            → StopsIn D.Disk disk.old disk.new (StandsStill self.now (pkg D.Disk disk.old)) }
+            → CrashLeavesFile D.Disk disk.old disk.new (RepresentsBlobs self.now (pkg D.Disk disk.old)) }
         ensures writes { Writes D.Disk Pkg Anything (moving_cost self.now.slots (Some moves.now)) result disk.old disk.new }
     {
         move_all(disk, &self.slots, moves, 256 * (self.pages + 1))?;
@@ -130,10 +132,10 @@ impl PkgDb {
     pub(crate) fn grow<D: Disk>(&self, disk: &mut D, page: &Option<Page>) -> Result<(), Failed>
         requires made { 1 ≤ self.now.pages }
         requires can { CanGrowBy self.now (moves_of page.now) }
-        requires keeps { IsTrue D.tells → Keeps (pkg D.Disk disk.old) self.now }
+        requires keeps { IsTrue D.tells → KeepsStore (pkg D.Disk disk.old) self.now }
         ensures grown { OnOk result (IsTrue D.tells → IsGrown D.Disk disk.old disk.new self.now (moves_of page.now)) }
         ensures images { IsTrue D.tells → Quiet D.Disk disk.old self.now
-            → StopsIn D.Disk disk.old disk.new (StandsStill self.now (pkg D.Disk disk.old)) }
+            → CrashLeavesFile D.Disk disk.old disk.new (RepresentsBlobs self.now (pkg D.Disk disk.old)) }
         ensures writes { Writes D.Disk Pkg Anything (moving_cost self.now.slots (moves_of page.now)) result disk.old disk.new }
     {
         match page {

@@ -1,7 +1,7 @@
 //! The blocks of one blob.
 
 ghost use Rattle.std.specs.Prelude.{◌≡◌, ◌≢◌, ℕ, ◌+◌, ◌-◌, ◌*◌, ◌/◌, ◌%◌, ◌^◌, ◌≤◌, ◌<◌, ◌++◌, IsTrue, true, false, length, take, drop, Err, OnOk, IfOk, IfErr};
-ghost use Rattle.rpm_pkgdb.specs.Prelude.{AreParts, blob_in, bytes_of, checksum_holds, end_of, Files, frame_in, frame_of, is_framed, is_head, is_tail, IsFrame, IsOutside, Pkg, ReadsOr, unit_at, Units, units_of, word};
+ghost use Rattle.rpm_pkgdb.specs.Prelude.{AreParts, blob_in, bytes_of, checksum_holds, end_of, Files, frame_in, frame_of, is_framed, is_head, is_tail, IsFrame, IsOutsideBlob, Pkg, ReadsOr, unit_at, Units, units_of, word};
 ghost use Rattle.rpm_pkgdb.specs.declared.blob.GetFault.TheVariants as faults;
 
 use crate::checksum::sums;
@@ -134,7 +134,7 @@ fn read_into<D: Disk>(disk: &mut D, at: u64, count: u32, room: Vec<u8>) -> Resul
     ensures long { IfOk result (λ v. length v.items ≡ 16 * count) }
     ensures units { IfOk result (λ v. IsTrue D.tells → units_of v.items ≡ take count (drop at (D.files disk.old).pkg)) }
     ensures bytes { IfOk result (λ v. IsTrue D.tells → v.items ≡ bytes_of (take count (drop at (D.files disk.old).pkg))) }
-    ensures outside { IfErr result (λ e. IsOutside e) }
+    ensures outside { IfErr result (λ e. IsOutsideBlob e) }
     ensures reads { ReadsOr D.Disk Pkg (16 * count) (result ≡ Err GetFault.DiskFault) disk.old disk.new }
 {
     let length = 16 * count as usize;

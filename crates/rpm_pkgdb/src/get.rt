@@ -1,7 +1,7 @@
 //! The blob of a number, read.
 
 ghost use Rattle.std.specs.Prelude.{◌≡◌, ◌≤◌, IsTrue, length, None, Some, Ok, Err, ◌↔◌, IfOk};
-ghost use Rattle.rpm_pkgdb.specs.Prelude.{AnswerIs, blobs, checksums_hold, cost, frame_in, frames, given, given_blob, given_check, Keeps, Pkg, ReadsOr, slot_with};
+ghost use Rattle.rpm_pkgdb.specs.Prelude.{AnswerIs, blobs, checksums_hold, cost, frame_in, frames, given_bytes, given_blob, given_check, KeepsStore, Pkg, ReadsOr, slot_with};
 ghost use Rattle.std.specs.FinMap as finite;
 
 use crate::blob::{Blocks, Checked, GetFault, read_blocks};
@@ -12,9 +12,9 @@ use std::alloc::Global;
 impl PkgDb {
     /// Reads the blocks of a number, into a vector whose room is used again.
     fn blocks<D: Disk>(&self, disk: &mut D, n: u32, room: Vec<u8>) -> Result<Blocks, GetFault>
-        requires keeps { IsTrue D.tells → Keeps (D.files disk.old).pkg self.now }
+        requires keeps { IsTrue D.tells → KeepsStore (D.files disk.old).pkg self.now }
         ensures long { IfOk result (λ b. 12 ≤ length b.rest.items) }
-        ensures kept { IsTrue D.tells → Keeps (D.files disk.new).pkg self.now }
+        ensures kept { IsTrue D.tells → KeepsStore (D.files disk.new).pkg self.now }
         ensures told { IsTrue D.tells → AnswerIs frame_in (frames (D.files disk.old).pkg self.now n) result }
         ensures absent { (result ≡ Err GetFault.NoSuch) ↔ (slot_with n self.now.slots ≡ None) }
         ensures reads { ReadsOr D.Disk Pkg (cost n self.now) (result ≡ Err GetFault.DiskFault) disk.old disk.new }
@@ -38,9 +38,9 @@ impl PkgDb {
     /// - `DiskFault` only where the disk's count of faults rose.
     /// - `NoMemory` where the blob finds no memory.
     pub fn get<D: Disk>(&self, alloc: Global, disk: &mut D, n: u32) -> Result<Vec<u8>, GetFault>
-        requires keeps { IsTrue D.tells → Keeps (D.files disk.old).pkg self.now }
-        ensures kept { IsTrue D.tells → Keeps (D.files disk.new).pkg self.now }
-        ensures told { IsTrue D.tells → AnswerIs given (finite.get (blobs (D.files disk.old).pkg self.now) n) result }
+        requires keeps { IsTrue D.tells → KeepsStore (D.files disk.old).pkg self.now }
+        ensures kept { IsTrue D.tells → KeepsStore (D.files disk.new).pkg self.now }
+        ensures told { IsTrue D.tells → AnswerIs given_bytes (finite.get (blobs (D.files disk.old).pkg self.now) n) result }
         ensures absent { (result ≡ Err GetFault.NoSuch) ↔ (slot_with n self.now.slots ≡ None) }
         ensures reads { ReadsOr D.Disk Pkg (cost n self.now) (result ≡ Err GetFault.DiskFault) disk.old disk.new }
     {
@@ -54,9 +54,9 @@ impl PkgDb {
     ///
     /// Those of `get`, with the same causes.
     pub fn get_in<D: Disk>(&self, disk: &mut D, n: u32, room: Vec<u8>) -> Result<Vec<u8>, GetFault>
-        requires keeps { IsTrue D.tells → Keeps (D.files disk.old).pkg self.now }
-        ensures kept { IsTrue D.tells → Keeps (D.files disk.new).pkg self.now }
-        ensures told { IsTrue D.tells → AnswerIs given (finite.get (blobs (D.files disk.old).pkg self.now) n) result }
+        requires keeps { IsTrue D.tells → KeepsStore (D.files disk.old).pkg self.now }
+        ensures kept { IsTrue D.tells → KeepsStore (D.files disk.new).pkg self.now }
+        ensures told { IsTrue D.tells → AnswerIs given_bytes (finite.get (blobs (D.files disk.old).pkg self.now) n) result }
         ensures absent { (result ≡ Err GetFault.NoSuch) ↔ (slot_with n self.now.slots ≡ None) }
         ensures reads { ReadsOr D.Disk Pkg (cost n self.now) (result ≡ Err GetFault.DiskFault) disk.old disk.new }
     {
@@ -77,8 +77,8 @@ impl PkgDb {
         disk: &mut D,
         n: u32,
     ) -> Result<bool, GetFault>
-        requires keeps { IsTrue D.tells → Keeps (D.files disk.old).pkg self.now }
-        ensures kept { IsTrue D.tells → Keeps (D.files disk.new).pkg self.now }
+        requires keeps { IsTrue D.tells → KeepsStore (D.files disk.old).pkg self.now }
+        ensures kept { IsTrue D.tells → KeepsStore (D.files disk.new).pkg self.now }
         ensures told { IsTrue D.tells → AnswerIs (λ holds. holds) (checksums_hold (D.files disk.old).pkg self.now n) result }
         ensures absent { (result ≡ Err GetFault.NoSuch) ↔ (slot_with n self.now.slots ≡ None) }
         ensures reads { ReadsOr D.Disk Pkg (cost n self.now) (result ≡ Err GetFault.DiskFault) disk.old disk.new }
@@ -100,8 +100,8 @@ impl PkgDb {
         disk: &mut D,
         n: u32,
     ) -> Result<Checked, GetFault>
-        requires keeps { IsTrue D.tells → Keeps (D.files disk.old).pkg self.now }
-        ensures kept { IsTrue D.tells → Keeps (D.files disk.new).pkg self.now }
+        requires keeps { IsTrue D.tells → KeepsStore (D.files disk.old).pkg self.now }
+        ensures kept { IsTrue D.tells → KeepsStore (D.files disk.new).pkg self.now }
         ensures blob { IsTrue D.tells → AnswerIs given_blob (finite.get (blobs (D.files disk.old).pkg self.now) n) result }
         ensures holds { IsTrue D.tells → AnswerIs given_check (checksums_hold (D.files disk.old).pkg self.now n) result }
         ensures absent { (result ≡ Err GetFault.NoSuch) ↔ (slot_with n self.now.slots ≡ None) }

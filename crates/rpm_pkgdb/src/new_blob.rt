@@ -1,13 +1,13 @@
 //! A blob that is put: its blocks, written beside the others, named by a slot, and then what it replaces becomes zeros.
 
 ghost use Rattle.std.specs.Prelude.{◌≡◌, ℕ, ◌+◌, ◌-◌, ◌*◌, ◌/◌, ◌%◌, ◌^◌, ◌≤◌, ◌<◌, ◌++◌, IsTrue, length, take, drop, replicate, OnOk, IfSome};
-ghost use Rattle.rpm_pkgdb.specs.Prelude.{adler, Anything, BlobPut, BlobTorn, blocks_for, CanPut, FieldPut, FieldTorn, Files, framed, HasRoomFor, head_of, IsBlobPut, IsSettled, next_field, next_unit, padding, Pkg, pkg, put, Quiet, SameOutside, StopsIn, Store, summed, tail_of, unit_at, units_of, WhilePut, Writes};
+ghost use Rattle.rpm_pkgdb.specs.Prelude.{adler, Anything, BlobPut, BlobTorn, blocks_for, CanPut, FieldPut, FieldTorn, Files, framed, HasRoomFor, head_of, IsBlobPut, IsDurable, next_field, next_unit, padding, Pkg, pkg, with_units, Quiet, SameOutside, CrashLeavesFile, Store, summed_bytes, tail_of, unit_at, units_of, WhilePut, Writes};
 
 use crate::checksum::sums;
 use crate::plan::Target;
 use crate::slot::Slot;
 use crate::units::{
-    blob_head, blob_tail, next_unit, settle, slot_unit, write_one, write_units, write_zeros,
+    blob_head, blob_tail, next_unit, slot_unit, sync_pkg, write_one, write_units, write_zeros,
 };
 use rpm_outside::{Disk, Failed};
 
@@ -56,7 +56,7 @@ fn write_some<D: Disk>(disk: &mut D, at: u64, bytes: &[u8]) -> Result<(), Failed
     requires whole { length bytes.now % 16 ≡ 0 }
     requires room { at + length bytes.now / 16 ≤ 2 ^ 28 }
     requires inside { IsTrue D.tells → at ≤ length (D.files disk.old).pkg }
-    ensures written { OnOk result (IsTrue D.tells → (D.files disk.new).pkg ≡ put at (units_of bytes.now) (D.files disk.old).pkg) }
+    ensures written { OnOk result (IsTrue D.tells → (D.files disk.new).pkg ≡ with_units at (units_of bytes.now) (D.files disk.old).pkg) }
     ensures writes { Writes D.Disk Pkg (SameOutside at (length bytes.now / 16)) 0 result disk.old disk.new }
 {
     if bytes.is_empty() {
@@ -76,7 +76,7 @@ pub fn write_blob<D: Disk>(
     requires few { length blob.now ≤ 68157432 }
     requires room { start + blocks_for (length blob.now) ≤ 2 ^ 28 }
     ensures written { OnOk result (IsTrue D.tells
-        → (D.files disk.new).pkg ≡ put start (units_of (framed number generation blob.now)) (D.files disk.old).pkg) }
+        → (D.files disk.new).pkg ≡ with_units start (units_of (framed number generation blob.now)) (D.files disk.old).pkg) }
     ensures writes { Writes D.Disk Pkg (SameOutside start (blocks_for (length blob.now))) 0 result disk.old disk.new }
 {
     let head = blob_head(number, generation, blob.len() as u32);
@@ -100,7 +100,7 @@ fn write_field<D: Disk>(disk: &mut D, next: Option<u32>) -> Result<(), Failed>
     }
 }
 
-/// Writes a blob and the number field, and settles them.
+/// Writes a blob and the number field, and makes them durable.
 fn write_first<D: Disk>(
     disk: &mut D,
     target: &Target,
@@ -114,13 +114,13 @@ fn write_first<D: Disk>(
         → BlobPut target.now.start (units_of (framed target.now.number generation blob.now)) (next_field target.now)
         (D.files disk.old).pkg (D.files disk.new).pkg) }
     ensures next { OnOk result (IsTrue D.tells → IfSome (next_field target.now) (λ n. unit_at (D.files disk.new).pkg 1 ≡ next_unit n)) }
-    ensures settled { OnOk result (IsTrue D.tells → IsSettled D.Disk Pkg disk.new) }
+    ensures durable { OnOk result (IsTrue D.tells → IsDurable D.Disk Pkg disk.new) }
     ensures writes { Writes D.Disk Pkg (BlobTorn target.now.start (blocks_for (length blob.now))
         (next_field target.now)) 0 result disk.old disk.new }
 {
     write_blob(disk, target.start, target.number, generation, blob)?;
     write_field(disk, target.next_field())?;
-    settle(disk)
+    sync_pkg(disk)
 }
 
 /// Puts a blob, and makes the blocks of the slot zeros that it replaces.
@@ -134,7 +134,7 @@ pub fn put_blob<D: Disk>(
     requires { HasRoomFor target.now old (length blob.now) }
     ensures put { OnOk result (IsTrue D.tells → IsBlobPut D.Disk disk.old disk.new target.now generation old blob.now) }
     ensures images { IsTrue D.tells → (value : Store) → CanPut value target.now generation old blob.now
-        → Quiet D.Disk disk.old value → StopsIn D.Disk disk.old disk.new
+        → Quiet D.Disk disk.old value → CrashLeavesFile D.Disk disk.old disk.new
         (WhilePut value target.now generation blob.now (pkg D.Disk disk.old)) }
     ensures writes { Writes D.Disk Pkg Anything 0 result disk.old disk.new }
 {

@@ -1,7 +1,7 @@
 //! A slot page that a plan adds: the ranges that stand in its way, and where they go.
 
 ghost use Rattle.std.specs.Prelude.{◌≡◌, ◌≢◌, ℕ, List, ◌+◌, ◌*◌, ◌^◌, ◌≤◌, ◌<◌, ◌++◌, true, Some, Err, length, replicate, vec_len, MatchOption, OnOk, IfOk, slice_set};
-ghost use Rattle.rpm_pkgdb.specs.Prelude.{AllMoved, AreAllUsed, AreBehind, CantMove, FitsNowhere, free, HasPlacesBefore, HoldsPage, IsFirstBefore, IsLeast, IsPlanning, IsRanged, moved, NeedsPage, next_end, Slot, slot_at};
+ghost use Rattle.rpm_pkgdb.specs.Prelude.{AllMoved, AreAllUsed, AreBehind, CantMove, FitsNowhere, free, HasPlacesBefore, HoldsPage, IsFirstBefore, IsLeast, IsPlanning, IsRanged, moved_slot, NeedsPage, next_end, Slot, slot_at};
 
 use crate::added_page::Move;
 use crate::free_slots::FREE;
@@ -71,7 +71,7 @@ impl Page {
         ensures planning { OnOk result ((slots : List Slot) → IsPlanning slots end self.old → IsPlanning slots end self.new) }
         ensures moved { OnOk result ((to : ℕ) × (end ≤ to)
             × (self.new.slots.items ≡ slice_set self.old.slots.items place
-            (moved (slot_at self.old.slots.items place) to))) }
+            (moved_slot (slot_at self.old.slots.items place) to))) }
         ensures full { result ≡ Err PlanFault.StoreFull → FitsNowhere self.old.slots.items (slot_at self.old.slots.items place).count end }
         ensures kinds { result ≢ Err PlanFault.NumbersSpent }
     {

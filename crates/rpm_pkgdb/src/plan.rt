@@ -1,7 +1,7 @@
 //! Where a blob is to go, decided before anything is written.
 
 ghost use Rattle.std.specs.Prelude.{◌≡◌, ◌≢◌, ◌↔◌, ℕ, ◌+◌, ◌*◌, ◌^◌, ◌≤◌, ◌<◌, true, false, None, Some, Err, length, MatchOption, IfSome, IsSome, OnOk, OnErr, IfOk, is_none};
-ghost use Rattle.rpm_pkgdb.specs.Prelude.{AreAllUsed, AreUsedTo, field_after, FitsNowhere, has_number, HasMoreRoom, HasNoPlace, IsFirstFree, IsFor, IsFull, IsLeast, IsPackageNumber, IsPlan, IsPlanned, IsTargetFor, next_field, next_number, slot_at, slot_for, slot_with};
+ghost use Rattle.rpm_pkgdb.specs.Prelude.{AreAllUsed, AreUsedTo, field_after, FitsNowhere, has_number, HasMoreRoom, HasNoPlace, IsFirstFree, IsFor, IsStoreFull, IsLeast, IsPackageNumber, IsPlan, IsPlanned, IsTargetFor, next_field, next_number, slot_at, slot_for, slot_with};
 ghost use Rattle.rpm_pkgdb.specs.declared.plan.PlanFault.TheVariants as faults;
 
 use crate::page_plan::Page;
@@ -117,7 +117,7 @@ impl PkgDb {
         requires few { size ≤ 68157432 }
         ensures plan { IfOk result (IsPlan self.now) }
         ensures target { IfOk result (λ plan. IsTargetFor number size is_new plan.target) }
-        ensures full { result ≡ Err PlanFault.StoreFull → IsFull self.now is_new size }
+        ensures full { result ≡ Err PlanFault.StoreFull → IsStoreFull self.now is_new size }
         ensures kinds { result ≢ Err PlanFault.NumbersSpent }
     {
         match self.fit((size + 43) / 16, 256 * self.pages) {
@@ -145,7 +145,7 @@ impl PkgDb {
         requires few { length ≤ 68157432 }
         ensures plan { IfOk result (IsPlan self.now) }
         ensures target { IfOk result (λ plan. IsTargetFor number length true plan.target) }
-        ensures full { result ≡ Err PlanFault.StoreFull → IsFull self.now true length }
+        ensures full { result ≡ Err PlanFault.StoreFull → IsStoreFull self.now true length }
         ensures kinds { result ≢ Err PlanFault.NumbersSpent }
     {
         let _ = &self.slots;
@@ -174,7 +174,7 @@ impl PkgDb {
         requires left { n ≡ None → next_number self.now ≢ 4294967295 }
         ensures plan { IfOk result (IsPlan self.now) }
         ensures asked { IfOk result (λ plan. IsFor n length plan) }
-        ensures full { result ≡ Err PlanFault.StoreFull → IsFull self.now (is_none n) length }
+        ensures full { result ≡ Err PlanFault.StoreFull → IsStoreFull self.now (is_none n) length }
         ensures kinds { result ≢ Err PlanFault.NumbersSpent }
     {
         if let Some(m) = n {

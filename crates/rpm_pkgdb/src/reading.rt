@@ -1,8 +1,8 @@
 //! The slots of the pages, read piece by piece, in the order of the file, with what shows whether two of them meet.
 
 ghost use Rattle.std.specs.Prelude.{◌≡◌, ℕ, ◌+◌, ◌-◌, ◌*◌, ◌^◌, ◌≤◌, ◌<◌, ◌∷◌, ◌++◌, [], true, length, IfOk, ◌/◌, ◌%◌, IsTrue, None};
-ghost use Rattle.rpm_pkgdb.specs.Prelude.{added, AreNumbered, ArePages, AreRead, Awaits, Files, is_used, IsInOrder, IsRead, own_reason, Pkg, Reads, slot_of, table, units_of};
-ghost use Rattle.rpm_pkgdb.specs.inner.Reading.{Adds};
+ghost use Rattle.rpm_pkgdb.specs.Prelude.{slots_with, AreNumbered, ArePages, AreRead, Awaits, Files, is_used, IsInOrder, AreSlotsRead, own_reason, Pkg, ReadsOnly, slot_of, slot_units, units_of};
+ghost use Rattle.rpm_pkgdb.specs.inner.Reading.{SlotsRead};
 
 use crate::slot::{BLOCKS, Reason, SLOT, Slot, own_reason, slot_of};
 use crate::units::{read_units, unit_in};
@@ -135,7 +135,7 @@ fn add_unit(rising: &mut Rising, pages: u32, units: u64, unit: &[u8]) -> Option<
     requires awaits { Awaits pages (length rising.old.slots.items + 1) rising.old }
     requires order { IsInOrder rising.old }
     ensures reason { result ≡ own_reason pages units unit.now }
-    ensures slots { rising.new.slots.items ≡ added rising.old.slots.items result (slot_of unit.now) }
+    ensures slots { rising.new.slots.items ≡ slots_with rising.old.slots.items result (slot_of unit.now) }
     ensures numbered { AreNumbered rising.old.slots.items → AreNumbered rising.new.slots.items }
     ensures order { IsInOrder rising.new }
     ensures awaits { (n : ℕ) → Awaits pages n rising.old → Awaits pages n rising.new }
@@ -158,7 +158,7 @@ fn add_own(rising: Rising, pages: u32, units: u64, bytes: &[u8]) -> Reading
     requires awaits { Awaits pages (length rising.slots.items + length bytes.now / 16) rising }
     requires order { IsInOrder rising }
     requires numbered { AreNumbered rising.slots.items }
-    ensures adds { Adds pages units (units_of bytes.now) rising.slots.items result }
+    ensures adds { SlotsRead pages units (units_of bytes.now) rising.slots.items result }
     ensures order { IsInOrder result.rising }
     ensures numbered { AreNumbered result.rising.slots.items }
     ensures awaits { (n : ℕ) → Awaits pages n rising → Awaits pages n result.rising }
@@ -190,12 +190,12 @@ fn read_piece<D: Disk>(
     requires within { IsTrue D.tells → 256 * pages ≤ length (D.files disk.old).pkg }
     requires awaits { Awaits pages (length rising.slots.items + length bytes.old / 16) rising }
     requires order { IsInOrder rising }
-    requires read { AreRead (IsTrue D.tells) pages units (table pages (D.files disk.old).pkg) rising.slots.items }
-    ensures read { IfOk result (λ r. IsRead (IsTrue D.tells) pages units (table pages (D.files disk.old).pkg)
+    requires read { AreRead (IsTrue D.tells) pages units (slot_units pages (D.files disk.old).pkg) rising.slots.items }
+    ensures read { IfOk result (λ r. AreSlotsRead (IsTrue D.tells) pages units (slot_units pages (D.files disk.old).pkg)
         (length rising.slots.items + length bytes.old / 16) r) }
     ensures order { IfOk result (λ r. IsInOrder r.rising) }
     ensures awaits { IfOk result (λ r. (n : ℕ) → Awaits pages n rising → Awaits pages n r.rising) }
-    ensures reads { Reads D.Disk Pkg (length bytes.old) result disk.old disk.new }
+    ensures reads { ReadsOnly D.Disk Pkg (length bytes.old) result disk.old disk.new }
 {
     read_units(disk, 2 + rising.slots.len() as u64, bytes)?;
     Ok(add_own(rising, pages, units, bytes))
@@ -213,9 +213,9 @@ pub fn read_pieces<D: Disk>(
     requires empty { rising.slots.items ≡ [] }
     requires order { IsInOrder rising }
     requires awaits { Awaits pages (256 * pages - 2) rising }
-    ensures read { IfOk result (λ r. IsRead (IsTrue D.tells) pages units (table pages (D.files disk.old).pkg) (256 * pages - 2) r) }
+    ensures read { IfOk result (λ r. AreSlotsRead (IsTrue D.tells) pages units (slot_units pages (D.files disk.old).pkg) (256 * pages - 2) r) }
     ensures order { IfOk result (λ r. IsInOrder r.rising) }
-    ensures reads { Reads D.Disk Pkg (16 * (256 * pages - 2)) result disk.old disk.new }
+    ensures reads { ReadsOnly D.Disk Pkg (16 * (256 * pages - 2)) result disk.old disk.new }
 {
     let count = 256 * pages - 2;
     let mut rising = rising;

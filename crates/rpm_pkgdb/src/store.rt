@@ -1,7 +1,7 @@
 //! The store in Packages.db.
 
 ghost use Rattle.std.specs.Prelude.{◌≡◌, ◌+◌, ◌-◌, ◌*◌, ◌/◌, ◌^◌, ◌≤◌, ◌<◌, ◌==◌, IsTrue, length, max, None, Some, Ok, Err, IfOk, IfErr, IsSome, is_some, not};
-ghost use Rattle.rpm_pkgdb.specs.Prelude.{blank_store, is_nonzero, list_any, blobs, end_of, erased, HasSlot, head_reason, in_file, IsNext, IsPackageNumber, Keeps, next_number, opening_cost, OpenIs, Pkg, ReadsOr, slot_with, store, store_of, unit_at, with_free, word};
+ghost use Rattle.rpm_pkgdb.specs.Prelude.{blank_store, is_nonzero, list_any, blobs, end_of, without_number, HasSlot, head_reason, in_file, IsNextFound, IsPackageNumber, KeepsStore, next_number, opening_cost, OpenIs, Pkg, ReadsOr, slot_with, store, store_of_pages, unit_at, with_free, word};
 
 use crate::numbers::Numbers;
 use crate::slot::{BLOCKS, MAGIC, OpenFault, Reason, Slot, damage_at};
@@ -41,7 +41,7 @@ impl Model for PkgDb {
 
     ghost Value = { Store };
 
-    ghost use Rattle.rpm_pkgdb.specs.inner.Keeping.{IsSound};
+    ghost use Rattle.rpm_pkgdb.specs.inner.Keeping.{IsValueSound};
 
     ghost view = { λ s. record {
       generation = s.generation;
@@ -52,7 +52,7 @@ impl Model for PkgDb {
       is_stopped = s.stopped;
     } };
 
-    ghost invariant = { IsSound };
+    ghost invariant = { IsValueSound };
 }
 
 /// Whether all bytes are zero.
@@ -126,7 +126,7 @@ impl PkgDb {
     /// - `NoMemory` where the slots, or what compares them, find no memory; also where a slot is damaged.
     pub fn open<D: Disk>(alloc: Global, disk: &mut D) -> Result<PkgDb, OpenFault>
         ensures store { IsTrue D.tells → OpenIs (store (D.files disk.old).pkg) result }
-        ensures kept { IfOk result (λ db. IsTrue D.tells → Keeps (D.files disk.new).pkg db) }
+        ensures kept { IfOk result (λ db. IsTrue D.tells → KeepsStore (D.files disk.new).pkg db) }
         ensures from_one { IfOk result (λ db. slot_with 0 db.slots ≡ None) }
         ensures fresh { IfOk result (λ db. db ≡ in_file db) }
         ensures cost { IsTrue D.tells → D.bytes_read disk.new File.Pkg ≤ D.bytes_read disk.old File.Pkg + opening_cost (D.files disk.old).pkg }
@@ -157,7 +157,7 @@ impl PkgDb {
         requires in_order { head_reason units head.now ≡ None }
         requires units { IsTrue D.tells → units ≡ length (D.files disk.old).pkg }
         requires head { IsTrue D.tells → head.now ≡ unit_at (D.files disk.old).pkg 0 }
-        ensures store { IsTrue D.tells → OpenIs (store_of (word 3 head.now) (D.files disk.old).pkg) result }
+        ensures store { IsTrue D.tells → OpenIs (store_of_pages (word 3 head.now) (D.files disk.old).pkg) result }
         ensures from_one { IfOk result (λ db. slot_with 0 db.slots ≡ None) }
         ensures fresh { IfOk result (λ db. db ≡ in_file db) }
         ensures reads { ReadsOr D.Disk Pkg (4096 * word 3 head.now - 16) (result ≡ Err OpenFault.DiskFault) disk.old disk.new }
@@ -200,7 +200,7 @@ impl PkgDb {
         self.generation
     }
 
-    /// How many slot pages there are; 0 in a blank file.
+    /// How many slot pages there are; 0 in a blank file. It is for other programs: no crate here calls it.
     pub fn pages(&self) -> u32
         ensures { result ≡ self.now.pages }
     {
@@ -231,7 +231,7 @@ impl PkgDb {
         ensures number { result.1.number ≡ n }
         ensures package { IsPackageNumber n }
         ensures found { slot_with n self.now.slots ≡ Some result.1 }
-        ensures erased { with_free result.0 self.now ≡ erased n self.now }
+        ensures erased { with_free result.0 self.now ≡ without_number n self.now }
         ensures room { result.0 + 3 ≤ 2 ^ 28 }
         ensures end { end_of result.1 ≤ 2 ^ 28 }
     {
@@ -255,7 +255,7 @@ impl PkgDb {
 
     /// The least number above this one that a slot has, and `None` where there is none. Takes log n steps.
     pub fn next_above(&self, n: u32) -> Option<u32>
-        ensures { IsNext (λ m. slot_with m self.now.slots) n result }
+        ensures { IsNextFound (λ m. slot_with m self.now.slots) n result }
     {
         self.numbers.above(n)
     }

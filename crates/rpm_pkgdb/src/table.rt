@@ -1,7 +1,7 @@
 //! The slots of the pages, each read once, and the first that meets an earlier one.
 
 ghost use Rattle.std.specs.Prelude.{◌≡◌, ℕ, ◌<◌, None, MatchOption, OnOk, ◌+◌, ◌*◌, ◌^◌, ◌≤◌, ◌∷◌, ◌++◌, [], true, length, is_some, IfErr, ◌-◌, IsTrue, Err, IfOk};
-ghost use Rattle.rpm_pkgdb.specs.Prelude.{Adds, AreNumbered, ArePages, ArePairs, AreRight, AreRising, AreRisingTo, AreSound, CanKeep, end_of, fault_of, Files, find_in, get, has_number, HasPlaces, is_used, IsIndexed, IsInOrder, IsKnown, IsLast, IsRead, list_any, meeting, meets, nat_cmp, Pkg, ReadsOr, Says, SaysHere, shared_fault, shared_reason, slots_in, table, table_fault};
+ghost use Rattle.rpm_pkgdb.specs.Prelude.{MapWithOne, AreNumbered, ArePages, ArePairs, AreRight, AreKeysRising, AreRisingTo, AreSound, CanKeep, end_of, fault_of, Files, find_in, get, has_number, HasPlaces, is_used, IsTableIndexed, IsInOrder, IsKnown, IsLast, AreSlotsRead, list_any, first_shared_fault, slots_meet, nat_cmp, Pkg, ReadsOr, DamageIs, SaysHere, shared_fault, shared_reason, slots_in, slot_units, table_fault};
 
 use crate::keys::{Order, numbers_if_apart};
 use crate::numbers::Numbers;
@@ -23,7 +23,7 @@ pub fn last_before(ranges: &BTreeMap<u32, u32>, block: u32) -> Option<u32>
 
 /// Puts a value at a key that is new, or in the place of an old one.
 pub fn put(map: &mut BTreeMap<u32, u32>, key: u32, value: u32) -> Result<(), AllocError>
-    ensures { OnOk result (Adds (λ q. get nat_cmp map.old q) (λ q. get nat_cmp map.new q) key value) }
+    ensures { OnOk result (MapWithOne (λ q. get nat_cmp map.old q) (λ q. get nat_cmp map.new q) key value) }
 {
     map.insert(key, value)?;
     Ok(())
@@ -64,7 +64,7 @@ impl Opening {
     fn overlaps(&self, slot: Slot) -> bool
         requires known { IsKnown self.now }
         requires end { end_of slot ≤ 2 ^ 28 }
-        ensures { result ≡ list_any (meets slot) self.now.slots.items }
+        ensures { result ≡ list_any (slots_meet slot) self.now.slots.items }
     {
         // The ranges so far are apart, so of those that begin before the slot's end only the last can reach into it.
         match last_before(&self.ranges, slot.offset + slot.count) {
@@ -138,8 +138,8 @@ pub struct Table {
 fn exact_numbers(alloc: Global, slots: &[Slot]) -> Result<Numbers, OpenFault>
     requires { AreRight slots.now }
     ensures places { IfOk result (λ numbers. HasPlaces (find_in numbers.pairs) slots.now) }
-    ensures sound { OnOk result (meeting [] slots.now ≡ None) }
-    ensures says { IfErr result (λ e. SaysHere e (meeting [] slots.now)) }
+    ensures sound { OnOk result (first_shared_fault [] slots.now ≡ None) }
+    ensures says { IfErr result (λ e. SaysHere e (first_shared_fault [] slots.now)) }
 {
     let mut opening = Opening::new(alloc);
     for k in 0..slots.len() {
@@ -159,11 +159,11 @@ fn numbers_of(
 ) -> Result<Numbers, OpenFault>
     requires right { AreRight slots.now }
     requires pairs { ArePairs Order.Number slots.now (length slots.now) pairs.items }
-    requires numbers { numbers_rise ≡ true → (end : ℕ) × AreRising Order.Number slots.now pairs.items (length pairs.items) end }
+    requires numbers { numbers_rise ≡ true → (end : ℕ) × AreKeysRising Order.Number slots.now pairs.items (length pairs.items) end }
     requires blocks { blocks_rise ≡ true → (end : ℕ) × AreRisingTo slots.now (length slots.now) end }
     ensures places { IfOk result (λ numbers. HasPlaces (find_in numbers.pairs) slots.now) }
-    ensures sound { OnOk result (meeting [] slots.now ≡ None) }
-    ensures says { IfErr result (λ e. SaysHere e (meeting [] slots.now)) }
+    ensures sound { OnOk result (first_shared_fault [] slots.now ≡ None) }
+    ensures says { IfErr result (λ e. SaysHere e (first_shared_fault [] slots.now)) }
 {
     match numbers_if_apart(alloc, slots, pairs, numbers_rise, blocks_rise)? {
         Some(numbers) => Ok(numbers),
@@ -176,10 +176,10 @@ fn table_of(alloc: Global, rising: Rising) -> Result<Table, OpenFault>
     requires right { AreRight rising.slots.items }
     requires order { IsInOrder rising }
     ensures slots { IfOk result (λ t. t.slots.items ≡ rising.slots.items) }
-    ensures indexed { IfOk result IsIndexed }
+    ensures indexed { IfOk result IsTableIndexed }
     ensures numbered { IfOk result (λ t. AreNumbered t.slots.items) }
-    ensures sound { OnOk result (meeting [] rising.slots.items ≡ None) }
-    ensures says { IfErr result (λ e. SaysHere e (meeting [] rising.slots.items)) }
+    ensures sound { OnOk result (first_shared_fault [] rising.slots.items ≡ None) }
+    ensures says { IfErr result (λ e. SaysHere e (first_shared_fault [] rising.slots.items)) }
 {
     let Rising {
         slots,
@@ -203,7 +203,7 @@ fn table_read(alloc: Global, reading: Reading) -> Result<Table, OpenFault>
     requires right { AreRight reading.rising.slots.items }
     requires order { IsInOrder reading.rising }
     ensures slots { IfOk result (λ t. t.slots.items ≡ reading.rising.slots.items) }
-    ensures indexed { IfOk result IsIndexed }
+    ensures indexed { IfOk result IsTableIndexed }
     ensures numbered { IfOk result (λ t. AreNumbered t.slots.items) }
     ensures sound { OnOk result (fault_of reading ≡ None) }
     ensures all { OnOk result (reading.reason ≡ None) }
@@ -229,13 +229,13 @@ pub fn read_table<D: Disk>(
 ) -> Result<Table, OpenFault>
     requires pages { ArePages pages }
     requires within { IsTrue D.tells → 256 * pages ≤ length (D.files disk.old).pkg }
-    ensures indexed { IfOk result IsIndexed }
+    ensures indexed { IfOk result IsTableIndexed }
     ensures numbered { IfOk result (λ t. AreNumbered t.slots.items) }
     ensures count { IfOk result (λ t. length t.slots.items ≡ 256 * pages - 2) }
     ensures placed { IfOk result (λ t. AreSound pages (2 ^ 28) t.slots.items) }
-    ensures slots { IfOk result (λ t. IsTrue D.tells → t.slots.items ≡ slots_in (table pages (D.files disk.old).pkg)) }
-    ensures sound { OnOk result (IsTrue D.tells → table_fault pages units (table pages (D.files disk.old).pkg) ≡ None) }
-    ensures says { IfErr result (λ e. IsTrue D.tells → Says e (table_fault pages units (table pages (D.files disk.old).pkg))) }
+    ensures slots { IfOk result (λ t. IsTrue D.tells → t.slots.items ≡ slots_in (slot_units pages (D.files disk.old).pkg)) }
+    ensures sound { OnOk result (IsTrue D.tells → table_fault pages units (slot_units pages (D.files disk.old).pkg) ≡ None) }
+    ensures says { IfErr result (λ e. IsTrue D.tells → DamageIs e (table_fault pages units (slot_units pages (D.files disk.old).pkg))) }
     ensures reads { ReadsOr D.Disk Pkg (16 * (256 * pages - 2)) (result ≡ Err OpenFault.DiskFault) disk.old disk.new }
 {
     let rising = Rising::before(alloc, pages)?;

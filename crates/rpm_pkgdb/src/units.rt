@@ -1,7 +1,7 @@
-//! Units: of the file, read, written and settled; of slot pages and heads of blobs, as bytes.
+//! Units: of the file, read, written and durable; of slot pages and heads of blobs, as bytes.
 
 ghost use Rattle.std.specs.Prelude.{◌≡◌, ℕ, ◌+◌, ◌/◌, ◌%◌, ◌≤◌, ◌<◌, IsTrue, length, take, drop, OnOk, IfOk, ◌*◌, ◌^◌, ◌∷◌, []};
-ghost use Rattle.rpm_pkgdb.specs.Prelude.{blank, bytes_of, Files, FitsAt, head_of, IsHeadUnit, IsSame, IsSettled, IsSlotUnit, next_unit, Pkg, put, Reads, SameOutside, tail_of, Torn, unit_at, Units, units_of, word, Writes};
+ghost use Rattle.rpm_pkgdb.specs.Prelude.{blank, bytes_of, Files, FitsAt, head_of, IsHeadUnit, IsSame, IsDurable, IsSlotUnit, next_unit, Pkg, with_units, ReadsOnly, SameOutside, tail_of, Torn, unit_at, Units, units_of, word, Writes};
 
 use crate::blob::{HEAD, TAIL};
 use crate::slot::{MAGIC, SLOT, Slot};
@@ -59,7 +59,7 @@ pub fn read_units<D: Disk>(disk: &mut D, unit: u64, into: &mut [u8]) -> Result<(
     requires within { IsTrue D.tells → unit + length into.old / 16 ≤ length (D.files disk.old).pkg }
     ensures units { OnOk result (IsTrue D.tells → units_of into.new ≡ take (length into.old / 16) (drop unit (D.files disk.old).pkg)) }
     ensures bytes { OnOk result (IsTrue D.tells → into.new ≡ bytes_of (take (length into.old / 16) (drop unit (D.files disk.old).pkg))) }
-    ensures reads { Reads D.Disk Pkg (length into.old) result disk.old disk.new }
+    ensures reads { ReadsOnly D.Disk Pkg (length into.old) result disk.old disk.new }
 {
     disk.read_at(File::Pkg, unit, into)?;
     Ok(())
@@ -78,7 +78,7 @@ pub fn unit_in(bytes: &[u8], k: usize) -> &[u8]
 pub fn read_unit<D: Disk>(disk: &mut D, at: u64) -> Result<[u8; 16], Failed>
     requires { IsTrue D.tells → at < length (D.files disk.old).pkg }
     ensures unit { IfOk result (λ unit. IsTrue D.tells → unit ≡ unit_at (D.files disk.old).pkg at) }
-    ensures reads { Reads D.Disk Pkg 16 result disk.old disk.new }
+    ensures reads { ReadsOnly D.Disk Pkg 16 result disk.old disk.new }
 {
     let mut unit = [0u8; 16];
     read_units(disk, at, &mut unit)?;
@@ -88,29 +88,29 @@ pub fn read_unit<D: Disk>(disk: &mut D, at: u64) -> Result<[u8; 16], Failed>
 /// Writes units of Packages.db.
 pub fn write_units<D: Disk>(disk: &mut D, at: u64, bytes: &[u8]) -> Result<(), Failed>
     requires { FitsAt at bytes.now }
-    ensures written { OnOk result (IsTrue D.tells → (D.files disk.new).pkg ≡ put at (units_of bytes.now) (D.files disk.old).pkg) }
+    ensures written { OnOk result (IsTrue D.tells → (D.files disk.new).pkg ≡ with_units at (units_of bytes.now) (D.files disk.old).pkg) }
     ensures writes { Writes D.Disk Pkg (Torn at (units_of bytes.now)) 0 result disk.old disk.new }
 {
     disk.write_at(File::Pkg, at, bytes)
 }
 
-/// Settles Packages.db.
-pub fn settle<D: Disk>(disk: &mut D) -> Result<(), Failed>
-    ensures settled { OnOk result (IsTrue D.tells → IsSettled D.Disk Pkg disk.new) }
+/// Makes Packages.db durable.
+pub fn sync_pkg<D: Disk>(disk: &mut D) -> Result<(), Failed>
+    ensures durable { OnOk result (IsTrue D.tells → IsDurable D.Disk Pkg disk.new) }
     ensures writes { Writes D.Disk Pkg IsSame 0 result disk.old disk.new }
 {
     disk.sync(File::Pkg)
 }
 
-/// Writes one unit and settles the file.
+/// Writes one unit and makes the file durable.
 pub fn write_one<D: Disk>(disk: &mut D, at: u64, unit: &[u8; 16]) -> Result<(), Failed>
     requires room { at < 2 ^ 28 }
-    ensures written { OnOk result (IsTrue D.tells → (D.files disk.new).pkg ≡ put at (unit.now ∷ []) (D.files disk.old).pkg) }
-    ensures settled { OnOk result (IsTrue D.tells → IsSettled D.Disk Pkg disk.new) }
+    ensures written { OnOk result (IsTrue D.tells → (D.files disk.new).pkg ≡ with_units at (unit.now ∷ []) (D.files disk.old).pkg) }
+    ensures durable { OnOk result (IsTrue D.tells → IsDurable D.Disk Pkg disk.new) }
     ensures writes { Writes D.Disk Pkg (Torn at (unit.now ∷ [])) 0 result disk.old disk.new }
 {
     write_units(disk, at, unit)?;
-    settle(disk)
+    sync_pkg(disk)
 }
 
 /// Makes units zeros, a page in each write.

@@ -5,9 +5,9 @@ unfoldable pub use Rattle.rpm_header.specs.Bytes.{are_ended, number_at, numbers,
 pub use Rattle.rpm_header.specs.Header.{Header, Texts}
 unfoldable pub use Rattle.rpm_header.specs.Header.{entry_fault, entry_of, fault_at, header, header_of}
 pub use Rattle.rpm_header.specs.declared.form.HeaderFault.TheVariants.{BadType}
-pub use Rattle.rpm_outside.specs.Buffered.{buffered, inner}
+pub use Rattle.rpm_outside.specs.Buffered.{buffer_sink, inner}
 pub use Rattle.rpm_outside.specs.Files.{Units, units_of}
-pub use Rattle.rpm_outside.specs.inner.Flushed.{flushed, stopped}
+pub use Rattle.rpm_outside.specs.laws.Flushed.{flushed, stopped}
 pub use Rattle.rpm_pkgdb.specs.Blobs.{blob_in, frame_of}
 unfoldable pub use Rattle.rpm_pkgdb.specs.Blobs.{is_head, is_tail}
 unfoldable pub use Rattle.rpm_pkgdb.specs.Damages.{head_reason, own_reason, shared_reason}
@@ -17,29 +17,29 @@ pub use Rattle.rpm_pkgdb.specs.declared.slot.Reason.{Reason}
 pub use Rattle.rpm_pkgdb.specs.declared.slot.Reason.TheVariants.{BadMagic, BadPages, BadRange, BadSlot, Overlap, SameNumber}
 unfoldable pub use Rattle.rpm_print.specs.Asked.{asks_format, label_format, list_format}
 unfoldable pub use Rattle.rpm_print.specs.Closing.{closing, damage_line, fault_text, format_line, rule_text, usage_line}
-pub use Rattle.rpm_print.specs.Printed.{printed, step_of}
+pub use Rattle.rpm_print.specs.Printed.{printed_step, step_of}
 unfoldable pub use Rattle.rpm_print.specs.Printed.{sizes_line}
 pub use Rattle.rpm_qfeval.specs.Meaning.{meaning}
 unfoldable pub use Rattle.rpm_qfeval.specs.Meaning.{bytes, sizes}
 unfoldable pub use Rattle.rpm_qfparse.specs.Format.{format, reading}
 unfoldable pub use Rattle.rpm_qfparse.specs.Moves.{condition, move_of}
-unfoldable pub use Rattle.rpm_qfparse.specs.Tag.{after_number, number_of, show_in, table, tag_part}
+unfoldable pub use Rattle.rpm_qfparse.specs.Tag.{after_number, number_of, show_in, formatter_table, tag_part}
 pub use Rattle.rpm_qfparse.specs.Tree.{Bracket, Condition, End, Tagged, Text, Tree}
 pub use Rattle.rpm_qfparse.specs.declared.fault.FormatKind.TheVariants.{MissingClose}
 pub use Rattle.rpm_qfparse.specs.declared.tree.Role.TheVariants.{Element}
 pub use Rattle.rpm_qfparse.specs.declared.tree.Show.TheVariants.{Plain}
 pub use Rattle.rpm_qfparse.specs.declared.tree.TagPart.{TagPart}
-unfoldable pub use Rattle.rpm_tags.specs.Value.{first_text, numbers_in, stored, texts_in}
+unfoldable pub use Rattle.rpm_tags.specs.Value.{first_text, numbers_in, stored_value, texts_in}
 pub use Rattle.rpm_tags.specs.declared.tag.Tag.{Tag}
 pub use Rattle.rpm_tags.specs.declared.tag.Tag.TheVariants.{Filenames, Nvra, Stored}
 unfoldable pub use Rattle.rpm_words.specs.Ask.{arguments, ask, asked_by}
-unfoldable pub use Rattle.rpm_words.specs.Broken.{bad_argument, early_fault, first_broken, misplaced}
+unfoldable pub use Rattle.rpm_words.specs.Broken.{bad_argument, early_word_fault, first_broken, first_misplaced}
 pub use Rattle.rpm_words.specs.Fault.{fault}
 unfoldable pub use Rattle.rpm_words.specs.Place.{program_of}
 unfoldable pub use Rattle.rpm_words.specs.Purpose.{is_cluster, long_purpose, own_purpose, purpose_behind}
 unfoldable pub use Rattle.rpm_words.specs.Seen.{seen}
 unfoldable pub use Rattle.rpm_words.specs.Switch.{long_switch, rpm_switch, short_switch}
-unfoldable pub use Rattle.rpm_words.specs.Token.{said, said_behind}
+unfoldable pub use Rattle.rpm_words.specs.Token.{said_tokens, said_behind}
 pub use Rattle.rpm_words.specs.declared.fault.WordsKind.TheVariants.{NoMode, UnknownOption}
 unfoldable pub use Rattle.std.specs.Fmt.{digits}
 pub use Rattle.std.specs.Option.{option_map}

@@ -1,7 +1,10 @@
--- What command lines ask for, and by which format they print: by it `asked` of the page (`rpm_tool`, Theorem.antt) tells commands apart.
-use Rattle.std.specs.Prelude.{◌≡◌, ℕ, List, Option, Some, None, Result, Ok, Err, Bool, true, false, not, ◌&&◌, if◌then◌else◌, codes}
+-- What command lines ask for, and by which format they print: by it `asked` of the page (`rpm_tool`, Theorem.antt)
+-- tells commands apart.
+use Rattle.std.specs.Prelude.{◌≡◌, ℕ, List, Option, Some, None, Result, Ok, Err, Bool, true, false, not, ◌&&◌}
+use Rattle.std.specs.Prelude.{if◌then◌else◌, codes}
 use Rattle.rpm_words.specs.declared.ask.Mode.{Mode}
-use Rattle.rpm_words.specs.declared.ask.Mode.TheVariants.{Query, Addpkg, Replacepkg, Erasepkg, Verify, Initdb, Rebuilddb, Verifydb, Exportdb, Importdb}
+use Rattle.rpm_words.specs.declared.ask.Mode.TheVariants.{Query, Addpkg, Replacepkg, Erasepkg, Verify, Initdb}
+use Rattle.rpm_words.specs.declared.ask.Mode.TheVariants.{Rebuilddb, Verifydb, Exportdb, Importdb}
 use Rattle.rpm_words.specs.declared.ask.Mode.TheVariants.{Exercise, Order, Checkfiles}
 use Rattle.rpm_words.specs.declared.switch.Chosen.{Chosen}
 use Rattle.rpm_words.specs.declared.switch.Chosen.TheVariants.{All, Number, Package}
@@ -12,34 +15,35 @@ use Rattle.rpm_words.specs.Ask.{AskParts, ask}
 use Rattle.rpm_qfparse.specs.declared.fault.FormatFault.{FormatFault}
 use Rattle.rpm_qfparse.specs.Tree.{Tree}
 use Rattle.rpm_qfparse.specs.Format.{format}
-use Rattle.rpm_print.specs.declared.reading.Deed.{Deed}
-use Rattle.rpm_print.specs.declared.reading.Deed.TheVariants as deed
+use Rattle.rpm_print.specs.declared.reading.Request.{Request}
+use Rattle.rpm_print.specs.declared.reading.Request.TheVariants as request
 use Rattle.rpm_print.specs.declared.reading.Kind.{Kind}
 use Rattle.rpm_print.specs.declared.reading.Kind.TheVariants as kind
 use Rattle.rpm_print.specs.Texts.{text_of}
 
 -- what a command does with the database that it opens
-abbrev pub deed_of : Mode → Deed
-deed_of Exportdb = deed.Export
-deed_of Verifydb = deed.Verify
-deed_of Checkfiles = deed.CheckFiles
-deed_of Verify = deed.Unmet
-deed_of Order = deed.Order
-deed_of others = deed.Print
+abbrev pub request_of : Mode → Request
+request_of Exportdb = request.Export
+request_of Verifydb = request.Verify
+request_of Checkfiles = request.CheckFiles
+request_of Verify = request.Unmet
+request_of Order = request.Order
+request_of others = request.Print
 
 -- a command prints packages, by the format or as they are
-abbrev pub prints_packages : Deed → Bool
-prints_packages deed.Print = true
-prints_packages deed.Export = true
+abbrev pub prints_packages : Request → Bool
+prints_packages request.Print = true
+prints_packages request.Export = true
 prints_packages others = false
 
 -- the reports on requirements open the database with its index, whatever the words say
-abbrev pub always_keyed : Deed → Bool
-always_keyed deed.Unmet = true
-always_keyed deed.Order = true
+abbrev pub always_keyed : Request → Bool
+always_keyed request.Unmet = true
+always_keyed request.Order = true
 always_keyed others = false
 
--- a query that asks no index: of package files, of all packages, of patterns and of numbers always, else where the words say so
+-- a query that asks no index: of package files, of all packages, of patterns and of numbers always, else where the
+-- words say so
 abbrev pub needs_no_index : Chosen → Bool → Bool
 needs_no_index All noindex = true
 needs_no_index Number noindex = true
@@ -69,7 +73,8 @@ opens_index Verify asked = true
 opens_index Order asked = true
 opens_index others asked = false
 
--- the command is a question by key or a report on requirements: it opens the database with its index, and changes no package
+-- the command is a question by key or a report on requirements: it opens the database with its index, and changes no
+-- package
 abbrev pub by_key : AskParts → Bool
 by_key a = opens_index a.mode (not (needs_no_index a.chosen a.noindex))
 
@@ -95,14 +100,17 @@ is_package others = false
 abbrev pub of_files : AskParts → Bool
 of_files a = is_query a.mode && is_package a.chosen
 
--- the command is of this kind: what else it is and isn't, what it does with the database that it opens, and which text it prints
+-- the command is of this kind: what else it is and isn't, what it does with the database that it opens, and which text
+-- it prints
 abbrev pub KindIs : Kind → AskParts → Type 0
 KindIs kind.Change a = is_changing a ≡ true
 KindIs kind.Files a = (is_changing a ≡ false) × (of_files a ≡ true)
-KindIs (kind.Keyed d) a = (is_changing a ≡ false) × (of_files a ≡ false) × (by_key a ≡ true) × (d ≡ deed_of a.mode)
+KindIs (kind.Keyed d) a = (is_changing a ≡ false) × (of_files a ≡ false) × (by_key a ≡ true) × (d ≡ request_of a.mode)
 KindIs (kind.Plain d) a =
-    (is_changing a ≡ false) × (of_files a ≡ false) × (by_key a ≡ false) × (d ≡ deed_of a.mode) × (text_of a.mode ≡ None)
-KindIs (kind.Text text) a = (is_changing a ≡ false) × (of_files a ≡ false) × (by_key a ≡ false) × (text_of a.mode ≡ Some text.now)
+    (is_changing a ≡ false) × (of_files a ≡ false) × (by_key a ≡ false) × (d ≡ request_of a.mode)
+    × (text_of a.mode ≡ None)
+KindIs (kind.Text text) a = (is_changing a ≡ false) × (of_files a ≡ false) × (by_key a ≡ false)
+    × (text_of a.mode ≡ Some text.now)
 
 -- ---- the format
 
@@ -134,10 +142,10 @@ unfoldable pub asks_format : List (List ℕ) → Option (Result Tree FormatFault
 asks_format words = format_in words (ask words)
 
 -- the command and its format, where both could be read
-abbrev pub command_in : Result AskParts WordsFault → Option (Result Tree FormatFault) → Option (AskParts × Tree)
-command_in (Ok a) (Some (Ok tree)) = Some (a, tree)
-command_in asked read = None
+abbrev pub command_and_format : Result AskParts WordsFault → Option (Result Tree FormatFault) → Option (AskParts × Tree)
+command_and_format (Ok a) (Some (Ok tree)) = Some (a, tree)
+command_and_format asked read = None
 
 -- the words ask for this command, by this format
 unfoldable pub asks : List (List ℕ) → Option (AskParts × Tree)
-asks words = command_in (ask words) (asks_format words)
+asks words = command_and_format (ask words) (asks_format words)

@@ -4,13 +4,14 @@ use Rattle.std.specs.List.{concat}
 use Rattle.rpm_words.specs.declared.fault.WordsKind.{WordsKind}
 use Rattle.rpm_words.specs.declared.fault.WordsKind.TheVariants as kind
 use Rattle.rpm_words.specs.declared.fault.WordsFault.{WordsFault}
-use Rattle.rpm_words.specs.Words.{text_at}
+use Rattle.rpm_words.specs.Words.{word_at}
 use Rattle.rpm_qfparse.specs.declared.fault.FormatKind.{FormatKind}
 use Rattle.rpm_qfparse.specs.declared.fault.FormatKind.TheVariants as wrong
 use Rattle.rpm_qfparse.specs.declared.fault.FormatFault.{FormatFault}
 use Rattle.rpm_pkgdb.specs.declared.slot.Damage.{Damage}
 use Rattle.rpm_pkgdb.specs.declared.slot.Reason.{Reason}
-use Rattle.rpm_pkgdb.specs.declared.slot.Reason.TheVariants.{BadMagic, BadVersion, BadPages, BadSlot, BadNumber, BadRange, SameNumber, Overlap}
+use Rattle.rpm_pkgdb.specs.declared.slot.Reason.TheVariants.{BadMagic, BadVersion, BadPages, BadSlot, BadNumber}
+use Rattle.rpm_pkgdb.specs.declared.slot.Reason.TheVariants.{BadRange, SameNumber, Overlap}
 use Rattle.rpm_effects.specs.declared.answer.Why.{Why}
 use Rattle.rpm_effects.specs.declared.answer.Why.TheVariants as why
 
@@ -28,7 +29,8 @@ reason_text Overlap = codes "blocks overlap"
 -- the line that reports a damaged Packages.db
 unfoldable pub damage_line : Damage → List ℕ
 damage_line damage =
-    concat (codes "rpm: Packages.db is damaged at byte " ∷ decimal damage.offset ∷ codes ": " ∷ reason_text damage.reason ∷ codes "\n" ∷ [])
+    concat (codes "rpm: Packages.db is damaged at byte " ∷ decimal damage.offset ∷ codes ": "
+    ∷ reason_text damage.reason ∷ codes "\n" ∷ [])
 
 -- a text and a number, as a line
 abbrev pub number_line : List ℕ → ℕ → List ℕ
@@ -55,7 +57,8 @@ word_told others word = word
 
 -- the rule, and the word of that place
 unfoldable pub usage_line : List (List ℕ) → WordsFault → List ℕ
-usage_line words fault = concat (rule_text fault.kind ∷ word_told fault.kind (text_at words fault.word) ∷ codes "\n" ∷ [])
+usage_line words fault =
+    concat (rule_text fault.kind ∷ word_told fault.kind (word_at words fault.word) ∷ codes "\n" ∷ [])
 
 -- what is told of a fault of a format
 unfoldable pub fault_text : FormatKind → List ℕ
@@ -79,7 +82,8 @@ fault_text wrong.NoMemory = codes "out of memory"
 -- the fault, and the byte of the format that it stands at
 unfoldable pub format_line : FormatFault → List ℕ
 format_line fault =
-    concat (codes "error: incorrect format: " ∷ fault_text fault.kind ∷ codes " at byte " ∷ decimal fault.at ∷ codes "\n" ∷ [])
+    concat (codes "error: incorrect format: " ∷ fault_text fault.kind ∷ codes " at byte " ∷ decimal fault.at
+    ∷ codes "\n" ∷ [])
 
 -- the line of an ending of which there is one text alone; done, failed arguments and a fault of err itself have none
 unfoldable pub fixed_line : Why → List ℕ
@@ -94,7 +98,8 @@ fixed_line why.OutFault = codes "rpm: output could not be written\n"
 fixed_line why.NoMemory = codes "rpm: out of memory\n"
 fixed_line others = []
 
--- the line that closes an ending of these words. Of a damaged log or index it names the byte at which the unit of its fault begins
+-- the line that closes an ending of these words. Of a damaged log or index it names the byte at which the unit of its
+-- fault begins
 unfoldable pub closing : List (List ℕ) → Why → List ℕ
 closing words (why.Usage fault) = usage_line words fault
 closing words (why.BadFormat fault) = format_line fault

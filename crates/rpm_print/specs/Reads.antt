@@ -1,4 +1,5 @@
--- What is read of packages up to a step: the fields `reads` of `plain` and `keyed` on the page (`rpm_tool`, Theorem.antt), and the bounds within `went`.
+-- What is read of packages up to a step: the fields `reads` of `plain` and `keyed` on the page (`rpm_tool`,
+-- Theorem.antt), and the bounds within `went`.
 use Rattle.std.specs.Prelude.{◌≡◌, ℕ, zero, suc, ◌+◌, ◌≤◌, List, [], ◌∷◌, slice_get, Option, Some, None}
 use Rattle.rpm_db.specs.Database.{Database}
 use Rattle.rpm_select.specs.Reach.{Reach, reach_to, reach_all}
@@ -7,17 +8,17 @@ use Rattle.rpm_effects.specs.Steps.{Bearer}
 -- ---- one argument
 
 -- the blocks of the numbers that are gone over: of those up to this one, or of all
-abbrev pub reached : Reach → Database → Option ℕ → ℕ
-reached r db None = reach_all r db
-reached r db (Some n) = reach_to n r db
+abbrev pub reached_cost : Reach → Database → Option ℕ → ℕ
+reached_cost r db None = reach_all r db
+reached_cost r db (Some n) = reach_to n r db
 
 -- read while those above n are gone through: up to the package that a step is for
 abbrev pub ReadsIn : ℕ → ℕ → Reach → Database → ℕ → ℕ → Bearer → Type 0
-ReadsIn j n r db before now for = (for.argument ≡ j) × (now + reach_to n r db ≤ before + reached r db for.number)
+ReadsIn j n r db before now for = (for.argument ≡ j) × (now + reach_to n r db ≤ before + reached_cost r db for.number)
 
 -- a step within an argument was reached when no more was read than up to its package
 abbrev pub ReadsOf : ℕ → Reach → Database → ℕ → ℕ → Bearer → Type 0
-ReadsOf j r db before now for = (for.argument ≡ j) × (now ≤ before + reached r db for.number)
+ReadsOf j r db before now for = (for.argument ≡ j) × (now ≤ before + reached_cost r db for.number)
 
 -- ---- several
 
@@ -35,7 +36,7 @@ reach_before (r ∷ rs) db (suc j) = reach_all r db + reach_before rs db j
 -- the bytes that are read up to a package, none where nothing is reached
 abbrev pub reached_in : Option Reach → Database → Option ℕ → ℕ
 reached_in None db number = 0
-reached_in (Some r) db number = reached r db number
+reached_in (Some r) db number = reached_cost r db number
 
 -- a question reads this much up to a step: the packages of each argument before, and of its own those up to its
 -- number

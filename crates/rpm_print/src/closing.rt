@@ -1,7 +1,7 @@
 //! The line that closes a command on standard error.
 
 ghost use Rattle.std.specs.Prelude.{◌≡◌};
-ghost use Rattle.rpm_print.specs.Prelude.{closing, damage_line, fault_text, fixed_line, format_line, inner, number_line, reason_text, rule_text, text_at, usage_line, word_told, Writes};
+ghost use Rattle.rpm_print.specs.Prelude.{closing, damage_line, fault_text, fixed_line, format_line, inner, number_line, reason_text, rule_text, word_at, usage_line, word_told, Writes};
 
 use itoa::Buffer;
 use rpm_db::{Damage, Reason};
@@ -73,7 +73,7 @@ fn rule_text(kind: WordsKind) -> &'static [u8]
 
 /// The word that is told: the one that breaks the rule, and none where something is missing.
 fn word_told(words: &Words, fault: WordsFault) -> &[u8]
-    ensures { result.now ≡ word_told fault.kind (text_at words.now fault.word) }
+    ensures { result.now ≡ word_told fault.kind (word_at words.now fault.word) }
 {
     match fault.kind {
         WordsKind::NoMode | WordsKind::MissingArgument | WordsKind::NoMemory => b"",

@@ -8,7 +8,7 @@ mod step;
 mod texts;
 
 pub use closing::put_closing;
-pub use reading::{Deed, Kind, kind_of, read_command};
+pub use reading::{Kind, Request, kind_of, read_command};
 pub use rpm_effects::{Halt, Outcome, Why, status_of};
 pub use step::{print_header, print_picked, put_bad, put_text};
 pub use texts::print_text;

@@ -1,7 +1,7 @@
 //! `AnswersWords` of the theorem: the command that the words ask for, and its format.
 
 ghost use Rattle.std.specs.Prelude.{◌≡◌, true, Some, Ok, IfOk, IfErr};
-ghost use Rattle.rpm_print.specs.Prelude.{ask, asks_format, format_text, IsSound, KindIs, needs_no_index, Undone};
+ghost use Rattle.rpm_print.specs.Prelude.{ask, asks_format, format_text, IsCommandSound, KindIs, needs_no_index, Undone};
 
 use crate::texts::{HELP, VERSION};
 use rpm_effects::Why;
@@ -21,7 +21,7 @@ fn needs_no_index(chosen: Chosen, noindex: bool) -> bool
 
 /// What a command does with the database that it opens.
 #[derive(Clone, Copy, Debug, PartialEq, Eq)]
-pub enum Deed {
+pub enum Request {
     /// It prints what its arguments pick.
     Print,
     /// It writes all headers out.
@@ -45,9 +45,9 @@ pub enum Kind {
     Files,
     /// It opens the database with its index, and changes no package: a question by key, or a report on requirements.
     /// `AnswersKeyed`.
-    Keyed(Deed),
+    Keyed(Request),
     /// It opens the database without its index, and changes nothing: `AnswersPlain`.
-    Plain(Deed),
+    Plain(Request),
     /// It says something of the program itself, which is this text, and opens nothing: `AnswersText`.
     Text(&'static [u8]),
 }
@@ -58,13 +58,13 @@ pub fn kind_of(ask: &Ask) -> Kind
 {
     match ask.mode() {
         Mode::Query if matches!(ask.chosen(), Chosen::Package) => Kind::Files,
-        Mode::Query if needs_no_index(ask.chosen(), ask.noindex()) => Kind::Plain(Deed::Print),
-        Mode::Query => Kind::Keyed(Deed::Print),
-        Mode::Verify => Kind::Keyed(Deed::Unmet),
-        Mode::Order => Kind::Keyed(Deed::Order),
-        Mode::Exportdb => Kind::Plain(Deed::Export),
-        Mode::Verifydb => Kind::Plain(Deed::Verify),
-        Mode::Checkfiles => Kind::Plain(Deed::CheckFiles),
+        Mode::Query if needs_no_index(ask.chosen(), ask.noindex()) => Kind::Plain(Request::Print),
+        Mode::Query => Kind::Keyed(Request::Print),
+        Mode::Verify => Kind::Keyed(Request::Unmet),
+        Mode::Order => Kind::Keyed(Request::Order),
+        Mode::Exportdb => Kind::Plain(Request::Export),
+        Mode::Verifydb => Kind::Plain(Request::Verify),
+        Mode::Checkfiles => Kind::Plain(Request::CheckFiles),
         Mode::Help => Kind::Text(HELP),
         Mode::Version => Kind::Text(VERSION),
         Mode::Addpkg | Mode::Replacepkg | Mode::Erasepkg => Kind::Change,
@@ -89,7 +89,7 @@ fn format_text<'a>(words: &'a Words, ask: &Ask) -> &'a [u8]
 /// Reads the words: their command, or else how they end. Goes over them once.
 fn read_words(alloc: Global, words: &Words) -> Result<Ask, Why>
     ensures ok { IfOk result (λ a. ask words.now ≡ Ok a) }
-    ensures sound { IfOk result (λ a. IsSound words.now a) }
+    ensures sound { IfOk result (λ a. IsCommandSound words.now a) }
     ensures undone { IfErr result (λ why. Undone (ask words.now) (asks_format words.now) why) }
 {
     match read(alloc, words) {
@@ -103,7 +103,7 @@ fn read_words(alloc: Global, words: &Words) -> Result<Ask, Why>
 #[tactic(auto, unfolding(crate::specs::Asked::asks_format))]
 pub fn read_command(alloc: Global, words: &Words) -> Result<(Ask, Format), Why>
     ensures ok { IfOk result (λ c. (ask words.now ≡ Ok c.0) × (asks_format words.now ≡ Some (Ok c.1))) }
-    ensures sound { IfOk result (λ c. IsSound words.now c.0) }
+    ensures sound { IfOk result (λ c. IsCommandSound words.now c.0) }
     ensures undone { IfErr result (λ why. Undone (ask words.now) (asks_format words.now) why) }
 {
     let ask = read_words(alloc, words)?;

@@ -1,9 +1,9 @@
 //! What is printed of one package.
 
 ghost use Rattle.std.specs.Prelude.{◌≡◌, ◌≢◌, ℕ, ◌++◌, true, Err, IfOk, IfErr};
-ghost use Rattle.rpm_print.specs.Prelude.{bad_line, Bearer, bearer, entry_in, ErrTakes, Good, HaltHands, IsOfPrint, magic, meaning, OutTakes, printed, prints_packages, PutsErr, PutsOut, shown, step_by, StepIs, ToErr, ToOut};
+ghost use Rattle.rpm_print.specs.Prelude.{bad_line, Bearer, bearer, entry_in, ErrTakes, Good, HaltHands, IsOfPrint, magic, meaning, OutTakes, printed_step, prints_packages, PutsErr, PutsOut, shown_outputs, step_by, StepIs, ToErr, ToOut};
 
-use crate::reading::Deed;
+use crate::reading::Request;
 use itoa::Buffer;
 use rpm_effects::Halt;
 use rpm_header::{MAGIC, View};
@@ -63,8 +63,8 @@ pub fn print_header<O: Sink + Drop, E: Sink + Drop>(
     out: &mut Buffered<O>,
     err: &mut Buffered<E>,
 ) -> Result<bool, Halt>
-    ensures step { (j : ℕ) → StepIs (printed (bearer j number) (meaning view.now number format.now)) result
-        (shown O.Sink E.Sink out.old err.old) (shown O.Sink E.Sink out.new err.new) }
+    ensures step { (j : ℕ) → StepIs (printed_step (bearer j number) (meaning view.now number format.now)) result
+        (shown_outputs O.Sink E.Sink out.old err.old) (shown_outputs O.Sink E.Sink out.new err.new) }
     ensures no_read { result ≢ Err Halt.DiskFault }
     ensures class { IfErr result IsOfPrint }
     ensures hands { HaltHands O.Sink E.Sink result out.old err.old out.new err.new }
@@ -124,22 +124,22 @@ fn put_export<O: Sink + Drop>(
 /// magic, else what the format says of it.
 pub fn print_picked<O: Sink + Drop, E: Sink + Drop>(
     alloc: Global,
-    deed: Deed,
+    request: Request,
     format: &Format,
     picked: &Picked,
     out: &mut Buffered<O>,
     err: &mut Buffered<E>,
 ) -> Result<bool, Halt>
-    requires { prints_packages deed ≡ true }
-    ensures step { (j : ℕ) → StepIs (step_by deed format.now j (entry_in picked.now)) result
-        (shown O.Sink E.Sink out.old err.old) (shown O.Sink E.Sink out.new err.new) }
+    requires { prints_packages request ≡ true }
+    ensures step { (j : ℕ) → StepIs (step_by request format.now j (entry_in picked.now)) result
+        (shown_outputs O.Sink E.Sink out.old err.old) (shown_outputs O.Sink E.Sink out.new err.new) }
     ensures no_read { result ≢ Err Halt.DiskFault }
     ensures class { IfErr result IsOfPrint }
     ensures hands { HaltHands O.Sink E.Sink result out.old err.old out.new err.new }
 {
     match picked {
-        Picked::Good { number, blob } => match deed {
-            Deed::Export => put_export(alloc, blob.as_slice(), out),
+        Picked::Good { number, blob } => match request {
+            Request::Export => put_export(alloc, blob.as_slice(), out),
             _ => {
                 let view = blob.view();
                 print_header(format, &view, *number, out, err)

@@ -3,7 +3,7 @@ use Rattle.std.proofs.Common.{◌≡◌, ℕ, suc, ◌+◌, ◌*◌, ◌/◌, �
 use Rattle.std.proofs.Common.{drop, [], ◌∷◌, ◌++◌, length, map, replicate, codes, refl, sym, ap, ◌∙◌, arith, append_assoc, length-append}
 use Rattle.std.proofs.lemmas.List.{map-append, length-replicate, take-append-drop, length-take-le}
 use Rattle.std.proofs.lemmas.List.Folds.{concat-append}
-use Rattle.rpm_qfeval.proofs.Vocabulary.{base64_text, concat, encode_symbols, encode_with, escaped, escaped_text, hex_text, in_quotes, lower_digits}
+use Rattle.rpm_qfeval.proofs.Vocabulary.{base64_text, concat, encode_symbols, encode_with, escaped_byte, escaped_text, hex_text, lower_digits}
 use Rattle.rpm_qfeval.proofs.Vocabulary.{padding_len, standard}
 use Rattle.hex.proofs.HexLemmas.{length-encode_with}
 use Rattle.base64.proofs.Canonical.{encode_symbols-append}
@@ -11,7 +11,7 @@ use Rattle.base64.proofs.Canonical.{encode_symbols-append}
 -- ---- quoted
 
 pub escaped-append : (a b : List ℕ) → escaped_text (a ++ b) ≡ escaped_text a ++ escaped_text b
-escaped-append a b = ap concat (map-append escaped a b) ∙ concat-append (map escaped a) (map escaped b)
+escaped-append a b = ap concat (map-append escaped_byte a b) ∙ concat-append (map escaped_byte a) (map escaped_byte b)
 
 -- ---- in hex
 

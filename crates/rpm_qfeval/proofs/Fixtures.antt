@@ -2,7 +2,7 @@
 use Rattle.std.specs.Prelude.{◌≡◌, ℕ, List, [], ◌∷◌, codes, Bool, true, false, Result, Ok, Err, refl}
 use Rattle.rpm_qfeval.proofs.Vocabulary.{blob_text, Bracket, bytes, Condition, day_count, day_of, days_from_civil, days_of_months, days_of_years, Dbinstance}
 use Rattle.rpm_qfeval.proofs.Vocabulary.{digits, encode_symbols, encode_with, End, Header, meaning, month_of, number_text, Numbers, Role, sizes, Stored}
-use Rattle.rpm_qfeval.proofs.Vocabulary.{stored, Tag, Tagged, Text, text_text, Texts, Tree, weekday_number, year_of}
+use Rattle.rpm_qfeval.proofs.Vocabulary.{stored_value, Tag, Tagged, Text, text_text, Texts, Tree, weekday_number, year_of}
 use Rattle.rpm_header.specs.declared.form.Form.TheVariants as form
 use Rattle.rpm_qfparse.specs.declared.tree.Role.TheVariants as role
 use Rattle.rpm_qfparse.specs.declared.tree.Show.TheVariants as show
@@ -36,24 +36,24 @@ means : Tree → Result (List ℕ) (ℕ × ℕ)
 means tree = meaning small 7 tree
 
 a_round_for_each_element : means (Bracket (tag role.First name (tag role.Element requires (Text (codes "\n") End))) End) ≡ Ok (codes "bc\nbd\n")
-unfolding means small name requires tag stored sizes bytes
+unfolding means small name requires tag stored_value sizes bytes
 a_round_for_each_element = refl
 
 counts_differ : means (Text (codes "x") (Bracket (tag role.Element epoch (tag role.Element name (tag role.Element requires End))) End)) ≡ Err (1, 2)
-unfolding means small name requires epoch tag stored sizes bytes
+unfolding means small name requires epoch tag stored_value sizes bytes
 counts_differ = refl
 
 none_is_present : means (Bracket (tag role.Element epoch (tag role.First name End)) (tag role.Element epoch End)) ≡ Ok (codes "(none)\n(none)")
-unfolding means small name epoch tag stored sizes bytes
+unfolding means small name epoch tag stored_value sizes bytes
 none_is_present = refl
 
 in_a_condition : means (Condition epoch (Bracket (tag role.Element name (tag role.Element requires End)) End) (tag role.Count requires End)
     (Condition name (tag role.Element Dbinstance End) End End)) ≡ Ok (codes "27")
-unfolding means small name requires epoch tag stored sizes bytes digits
+unfolding means small name requires epoch tag stored_value sizes bytes digits
 in_a_condition = refl
 
 widths : means (wide true name (wide false name (wide false epoch End))) ≡ Ok (codes "b    b(none)")
-unfolding means small name epoch wide stored sizes bytes
+unfolding means small name epoch wide stored_value sizes bytes
 widths = refl
 
 numbers :

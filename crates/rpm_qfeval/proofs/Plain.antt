@@ -4,7 +4,7 @@ use Rattle.std.proofs.Common.{false, Option, Some, None, inl, inr, ◌⊎◌, re
 use Rattle.std.proofs.lemmas.List.{append-nil, length-map}
 use Rattle.std.specs.Prelude.{slice_get, map, decimal}
 use Rattle.rpm_qfeval.proofs.Vocabulary.{count_of, Elements, Header, if_numbers, if_texts, IsPlain, NumberList, numbers_in, OneBlob, option_and_then}
-use Rattle.rpm_qfeval.proofs.Vocabulary.{option_map, or_none, padded, Stored, stored, Tag, TagPart, text_or_none, TextList, texts_in, value}
+use Rattle.rpm_qfeval.proofs.Vocabulary.{option_map, or_none, padded_text, Stored, stored_value, Tag, TagPart, text_or_none, TextList, texts_in, value}
 use Rattle.rpm_qfparse.specs.declared.tree.Role.TheVariants as role
 use Rattle.rpm_qfparse.specs.declared.tree.Show.TheVariants as show
 use Rattle.rpm_qfparse.specs.declared.tree.Part.TheVariants as part
@@ -21,7 +21,7 @@ some_numbers (Some (TextList ts)) ns e = absurd cc
 some_numbers (Some (OneBlob b)) ns e = absurd cc
 some_numbers None ns e = absurd cc
 
-unpadded : (left : Bool) (text : List ℕ) → padded left 0 text ≡ text
+unpadded : (left : Bool) (text : List ℕ) → padded_text left 0 text ≡ text
 unpadded true text = let none : 0 - length text ≡ 0 = omega arith in rw none (append-nil text)
 unpadded false text = let none : 0 - length text ≡ 0 = omega arith in rw none refl
 
@@ -54,12 +54,12 @@ module _ (h : Header) (number : ℕ) (p : TagPart) (w : p.width ≡ 0) (e : p.ro
 pub stored_texts : (h : Header) (number tag : ℕ) (asked : Tag) (ts : List (List ℕ)) → asked ≡ Stored tag → Some ts ≡ texts_in h tag
     → value h number asked ≡ Some (TextList ts)
 unfolding texts_in
-stored_texts h number tag asked ts is texts = ap (value h number) is ∙ some_texts (stored h tag) ts texts
+stored_texts h number tag asked ts is texts = ap (value h number) is ∙ some_texts (stored_value h tag) ts texts
 
 pub stored_numbers : (h : Header) (number tag : ℕ) (asked : Tag) (ns : List ℕ) → asked ≡ Stored tag → Some ns ≡ numbers_in h tag
     → value h number asked ≡ Some (NumberList ns)
 unfolding numbers_in
-stored_numbers h number tag asked ns is numbers = ap (value h number) is ∙ some_numbers (stored h tag) ns numbers
+stored_numbers h number tag asked ns is numbers = ap (value h number) is ∙ some_numbers (stored_value h tag) ns numbers
 
 -- a list that has one more at its end
 pub get_more : {X : Type 0} (xs : List X) (x y : X) (k : ℕ) → slice_get (xs ++ x ∷ []) k ≡ Some y

@@ -39,7 +39,8 @@ weekday_names = codes "Mon" ∷ codes "Tue" ∷ codes "Wed" ∷ codes "Thu" ∷ 
 -- the months, from January on
 abbrev pub month_names : List (List ℕ)
 month_names =
-    codes "Jan" ∷ codes "Feb" ∷ codes "Mar" ∷ codes "Apr" ∷ codes "May" ∷ codes "Jun" ∷ codes "Jul" ∷ codes "Aug" ∷ codes "Sep" ∷ codes "Oct"
+    codes "Jan" ∷ codes "Feb" ∷ codes "Mar" ∷ codes "Apr" ∷ codes "May" ∷ codes "Jun" ∷ codes "Jul" ∷ codes "Aug"
+    ∷ codes "Sep" ∷ codes "Oct"
     ∷ codes "Nov" ∷ codes "Dec" ∷ []
 
 -- the day of the week of a day number
@@ -55,8 +56,8 @@ abbrev pub two : ℕ → List ℕ
 two n = (48 + n / 10) ∷ (48 + n % 10) ∷ []
 
 -- a number below 100 in two places, with a space in place of a zero in front
-abbrev pub spaced : ℕ → List ℕ
-spaced n = (if nat_lt n 10 then 32 else 48 + n / 10) ∷ (48 + n % 10) ∷ []
+abbrev pub spaced_number : ℕ → List ℕ
+spaced_number n = (if nat_lt n 10 then 32 else 48 + n / 10) ∷ (48 + n % 10) ∷ []
 
 -- a number below 10,000 in four places
 abbrev pub four : ℕ → List ℕ
@@ -68,12 +69,14 @@ clock s = two (s / 3600) ++ codes ":" ++ two (s / 60 % 60) ++ codes ":" ++ two (
 
 -- a day as `:day` shows it, as in `Thu Jan 01 1970`
 abbrev pub day_text : ℕ → List ℕ
-day_text day = weekday_name day ++ codes " " ++ month_name (month_of day) ++ codes " " ++ two (day_of day) ++ codes " " ++ four (year_of day)
+day_text day = weekday_name day ++ codes " " ++ month_name (month_of day) ++ codes " " ++ two (day_of day) ++ codes " "
+    ++ four (year_of day)
 
 -- a day and a second of it as `:date` shows them, as in `Thu Jan  1 00:00:00 1970`
 abbrev pub date_text : ℕ → ℕ → List ℕ
 date_text day second =
-    weekday_name day ++ codes " " ++ month_name (month_of day) ++ codes " " ++ spaced (day_of day) ++ codes " " ++ clock second ++ codes " "
+    weekday_name day ++ codes " " ++ month_name (month_of day) ++ codes " " ++ spaced_number (day_of day) ++ codes " "
+    ++ clock second ++ codes " "
     ++ four (year_of day)
 
 -- ---- the formatters

@@ -13,7 +13,7 @@ use Rattle.rpm_qfparse.specs.declared.tree.Show.{Show}
 use Rattle.rpm_qfparse.specs.declared.tree.Part.{Part}
 use Rattle.rpm_qfparse.specs.declared.tree.Part.TheVariants as part
 use Rattle.rpm_qfparse.specs.Tree.{Tree, End, Text, Tagged, Bracket, Condition}
-use Rattle.rpm_qfparse.specs.Shape.{parts_of}
+use Rattle.rpm_qfparse.specs.Shape.{parts_of_tree}
 use Rattle.rpm_qfeval.specs.Formatters.{number_text, shown, or_none}
 use Rattle.rpm_qfeval.specs.Padded.{in_width}
 
@@ -73,7 +73,7 @@ module _ (h : Header) (number : ℕ) where
 
   -- a bracket's counts are those of its tags, but for tags in conditions
   abbrev pub counts : Tree → List ℕ
-  counts inner = filter_map direct (parts_of inner)
+  counts inner = filter_map direct (parts_of_tree inner)
 
   -- the counts that differ of the first such bracket that would be printed
   unfoldable pub sizes : Tree → Option (ℕ × ℕ)
@@ -81,7 +81,8 @@ module _ (h : Header) (number : ℕ) where
   sizes (Text text rest) = sizes rest
   sizes (Tagged p rest) = sizes rest
   sizes (Bracket inner rest) = option_or (different (counts inner)) (sizes rest)
-  sizes (Condition tag first second rest) = option_or (if is_present tag then sizes first else sizes second) (sizes rest)
+  sizes (Condition tag first second rest) =
+      option_or (if is_present tag then sizes first else sizes second) (sizes rest)
 
   -- what is printed in a round; outside of brackets that is round 0
   unfoldable pub bytes : ℕ → Tree → List ℕ
@@ -89,7 +90,8 @@ module _ (h : Header) (number : ℕ) where
   bytes round (Text text rest) = text ++ bytes round rest
   bytes round (Tagged p rest) = tag_text round p ++ bytes round rest
   bytes round (Bracket inner rest) = rounds (counts inner) (λ i. bytes i inner) ++ bytes round rest
-  bytes round (Condition tag first second rest) = (if is_present tag then bytes round first else bytes round second) ++ bytes round rest
+  bytes round (Condition tag first second rest) =
+      (if is_present tag then bytes round first else bytes round second) ++ bytes round rest
 
   -- what a bracket prints
   abbrev pub bracket_bytes : Tree → List ℕ

@@ -9,14 +9,15 @@ has bit n = not (bit_and n bit == 0)
 -- ---- flags, a letter each
 
 -- the letters of the bits that a number has, in the order of the rows
-abbrev pub letters : List (ℕ × ℕ) → ℕ → List ℕ
-letters rows n = map (λ (row : ℕ × ℕ). row.1) (filter (λ (row : ℕ × ℕ). has row.0 n) rows)
+abbrev pub bit_letters : List (ℕ × ℕ) → ℕ → List ℕ
+bit_letters rows n = map (λ (row : ℕ × ℕ). row.1) (filter (λ (row : ℕ × ℕ). has row.0 n) rows)
 
 -- less, greater, equal
 abbrev pub depflags : List (ℕ × ℕ)
 depflags = (2, 60) ∷ (4, 62) ∷ (8, 61) ∷ []
 
--- documentation d, configuration c, specfile s, missing is right m, noreplace n, ghost g, licence l, readme r, artifact a
+-- documentation d, configuration c, specfile s, missing is right m, noreplace n, ghost g, licence l, readme r, artifact
+-- a
 abbrev pub fflags : List (ℕ × ℕ)
 fflags = (2, 100) ∷ (1, 99) ∷ (32, 115) ∷ (8, 109) ∷ (16, 110) ∷ (64, 103) ∷ (128, 108) ∷ (256, 114) ∷ (4096, 97) ∷ []
 

@@ -2,7 +2,7 @@
 use Rattle.std.specs.Prelude.{◌≡◌, ℕ, ◌≤◌, List, Result, Ok, Err}
 use Rattle.rpm_outside.specs.declared.sink.Sink as sink
 use Rattle.rpm_outside.specs.Causes.{Rose}
-use Rattle.rpm_outside.specs.Sinks.{Gained, GainedPart}
+use Rattle.rpm_outside.specs.Sinks.{GainIs, GainedPart}
 use Rattle.rpm_qfeval.specs.declared.printing.DirectFault.{DirectFault}
 use Rattle.rpm_qfeval.specs.declared.printing.DirectFault.TheVariants as direct
 use Rattle.rpm_qfeval.specs.declared.printing.EvalFault.{EvalFault}
@@ -32,8 +32,9 @@ module _ {O : Type 0} (o : sink.Ghosts O) where
   -- A format that means bytes writes them, or the first of them where the sink's count of faults rose. Any other one
   -- has its counts told, and nothing is written. Nothing else comes.
   abbrev pub EndsSo : Result (List ℕ) (ℕ × ℕ) → O → O → Ending → Type 0
-  EndsSo (Ok bytes) old new Done = Gained o.tells (o.taken old) (o.taken new) bytes
-  EndsSo (Ok bytes) old new Fails = GainedPart o.tells (o.taken old) (o.taken new) bytes × Rose (o.faults old) (o.faults new)
+  EndsSo (Ok bytes) old new Done = GainIs o.tells (o.taken old) (o.taken new) bytes
+  EndsSo (Ok bytes) old new Fails = GainedPart o.tells (o.taken old) (o.taken new) bytes
+      × Rose (o.faults old) (o.faults new)
   EndsSo (Err counts) old new (Differs first second) = (counts ≡ (first, second)) × (new ≡ old)
   EndsSo meaning old new ending = ⊥
 

@@ -1,7 +1,7 @@
 //! The dates of moments.
 
 ghost use Rattle.std.specs.Prelude.{◌≡◌, ◌≤◌, ◌<◌, ◌+◌, ◌/◌, ◌%◌, pos, slice_index_or, []};
-ghost use Rattle.rpm_qfeval.specs.Prelude.{date_text, day_of, day_text, epoch_day, four, monday_zero, month_name, month_of, spaced, time_seconds, two, weekday_name, weekday_names, year_of};
+ghost use Rattle.rpm_qfeval.specs.Prelude.{date_text, day_of, day_text, epoch_day, four, monday_zero, month_name, month_of, spaced_number, time_seconds, two, weekday_name, weekday_names, year_of};
 
 use jiff::Timestamp;
 use jiff::civil::{DateTime, Weekday};
@@ -51,7 +51,7 @@ fn two(number: u8) -> [u8; 2]
 
 fn spaced(number: u8) -> [u8; 2]
     requires { number < 100 }
-    ensures { result ≡ spaced number }
+    ensures { result ≡ spaced_number number }
 {
     let tens = if number < 10 {
         b' '

@@ -1,7 +1,7 @@
 //! Flags, a letter each.
 
 ghost use Rattle.std.specs.Prelude.{◌≡◌, ◌≤◌, length};
-ghost use Rattle.rpm_qfeval.specs.Prelude.{letters};
+ghost use Rattle.rpm_qfeval.specs.Prelude.{bit_letters};
 
 use crate::modes::has;
 use arrayvec::ArrayVec;
@@ -25,7 +25,7 @@ pub const FFLAGS: [(u64, u8); 9] = [
 /// The letters of the bits that a number has.
 pub fn letters(rows: &[(u64, u8)], number: u64) -> ArrayVec<u8, 9>
     requires { length rows.now ≤ 9 }
-    ensures { result.items ≡ letters rows.now number }
+    ensures { result.items ≡ bit_letters rows.now number }
 {
     let mut letters = ArrayVec::new();
     for (bit, letter) in rows {

@@ -1,7 +1,7 @@
 //! Tags are asked for, in a bracket from the columns of its tags.
 
 ghost use Rattle.std.specs.Prelude.{◌≡◌, ◌<◌, length, true, IfSome};
-ghost use Rattle.rpm_qfeval.specs.Prelude.{AreValues, count_of, IsOf, is_present, option_map, tag_text, value, Writes};
+ghost use Rattle.rpm_qfeval.specs.Prelude.{AreValues, count_of, IsOfTag, is_present, option_map, tag_text, value, Writes};
 
 use crate::columns::{Asked, Column};
 use crate::elements::put_looked_up;
@@ -14,7 +14,7 @@ use rpm_tags::value;
 #[inline(always)]
 fn is_at(columns: &[Option<Column<'_, '_>>], k: usize, asked: Asked) -> bool
     ensures within { result ≡ true → k < length columns.now }
-    ensures tag { result ≡ true → IsOf columns.now k asked.tag }
+    ensures tag { result ≡ true → IsOfTag columns.now k asked.tag }
 {
     if k >= columns.len() {
         return false;
@@ -30,7 +30,7 @@ fn is_at(columns: &[Option<Column<'_, '_>>], k: usize, asked: Asked) -> bool
 #[inline(never)]
 fn find(columns: &[Option<Column<'_, '_>>], asked: Asked) -> Option<usize>
     ensures within { IfSome result (λ k. k < length columns.now) }
-    ensures tag { IfSome result (λ k. IsOf columns.now k asked.tag) }
+    ensures tag { IfSome result (λ k. IsOfTag columns.now k asked.tag) }
 {
     for k in 0..columns.len() {
         if is_at(columns, k, asked) {
@@ -46,7 +46,7 @@ fn find(columns: &[Option<Column<'_, '_>>], asked: Asked) -> Option<usize>
 #[inline(always)]
 fn place_of(columns: &[Option<Column<'_, '_>>], next: &mut usize, asked: Asked) -> Option<usize>
     ensures within { IfSome result (λ k. k < length columns.now) }
-    ensures tag { IfSome result (λ k. IsOf columns.now k asked.tag) }
+    ensures tag { IfSome result (λ k. IsOfTag columns.now k asked.tag) }
 {
     let first = *next;
     if is_at(columns, first, asked) {

@@ -1,7 +1,7 @@
 //! How long a text is, without a copy of it.
 
 ghost use Rattle.std.specs.Prelude.{◌≡◌, ℕ, ◌-◌, length};
-ghost use Rattle.rpm_qfeval.specs.Prelude.{base64_text, concat, escaped_text, hex_text, text_of};
+ghost use Rattle.rpm_qfeval.specs.Prelude.{base64_text, concat, escaped_text, hex_text, piece_text};
 
 use crate::shown::Shown;
 use rpm_tags::Joined;
@@ -55,7 +55,7 @@ fn lack_of_base64(bytes: &[u8], width: u32) -> u32
 /// How many of so many bytes a text lacks. Reads the bytes of a text that is quoted, up to the
 /// width, and of no other.
 pub fn lack(text: &Shown<'_>, width: u32) -> u32
-    ensures { result ≡ width - length (text_of text.now) }
+    ensures { result ≡ width - length (piece_text text.now) }
 {
     match text {
         Shown::Plain(bytes) => lack_of(bytes.len(), width),

@@ -1,7 +1,7 @@
 //! A text is put piece by piece.
 
 ghost use Rattle.std.specs.Prelude.{◌≡◌, ◌<◌, ◌≤◌, ◌==◌, ◌++◌, codes, length, replicate, IfSome, IfNone};
-ghost use Rattle.rpm_qfeval.specs.Prelude.{concat, escaped_text, hex_text, in_quotes, padded, position, quoted, text_of, Writes};
+ghost use Rattle.rpm_qfeval.specs.Prelude.{concat, escaped_text, hex_text, in_quotes, padded_text, position, quoted_text, piece_text, Writes};
 
 use crate::encoded::{put_base64, put_hex};
 use crate::measure::lack;
@@ -90,7 +90,7 @@ fn put_escaped_parts<O: Sink>(sink: &mut O, text: &Joined<'_>) -> Result<(), Fai
 }
 
 fn put_quoted<O: Sink>(sink: &mut O, text: &Joined<'_>) -> Result<(), Failed>
-    ensures { Writes O.Sink sink.old sink.new (quoted (concat text.now)) result }
+    ensures { Writes O.Sink sink.old sink.new (quoted_text (concat text.now)) result }
 {
     put_all(sink, b"'")?;
     put_escaped_parts(sink, text)?;
@@ -98,7 +98,7 @@ fn put_quoted<O: Sink>(sink: &mut O, text: &Joined<'_>) -> Result<(), Failed>
 }
 
 fn put_quoted_bytes<O: Sink>(sink: &mut O, text: &[u8]) -> Result<(), Failed>
-    ensures { Writes O.Sink sink.old sink.new (quoted text.now) result }
+    ensures { Writes O.Sink sink.old sink.new (quoted_text text.now) result }
 {
     put_all(sink, b"'")?;
     put_escaped(sink, text)?;
@@ -114,7 +114,7 @@ fn put_quoted_hex<O: Sink>(sink: &mut O, bytes: &[u8]) -> Result<(), Failed>
 }
 
 fn put_shown<O: Sink>(sink: &mut O, text: &Shown<'_>) -> Result<(), Failed>
-    ensures { Writes O.Sink sink.old sink.new (text_of text.now) result }
+    ensures { Writes O.Sink sink.old sink.new (piece_text text.now) result }
 {
     match text {
         Shown::Plain(bytes) => put_all(sink, bytes),
@@ -135,7 +135,7 @@ pub fn put_padded<O: Sink>(
     width: u32,
     text: &Shown<'_>,
 ) -> Result<(), Failed>
-    ensures { Writes O.Sink sink.old sink.new (padded left width (text_of text.now)) result }
+    ensures { Writes O.Sink sink.old sink.new (padded_text left width (piece_text text.now)) result }
 {
     if width == 0 {
         return put_shown(sink, text);

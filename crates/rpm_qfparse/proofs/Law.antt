@@ -1,6 +1,6 @@
 -- The rules give one result for each text.
 use Rattle.std.proofs.Common.{◌≡◌, ℕ, suc, ◌+◌, ◌-◌, ◌<◌, ◌≤◌, List, [], length, Result, Ok, Err, Bool, true, false, refl, sym, ◌∙◌, ap, arith, inl, inr, nat_lt, cond, ltb-true, ltb-false, subst}
-use Rattle.rpm_qfparse.proofs.Vocabulary.{format, FormatFault, Gives, IsFormat, placed, Reading, reading, Reads, TooLong, Tree}
+use Rattle.rpm_qfparse.proofs.Vocabulary.{format, FormatFault, Gives, IsFormat, placed_result, Reading, reading, Reads, TooLong, Tree}
 use Rattle.rpm_qfparse.specs.declared.moves.Context.TheVariants as context
 use Rattle.rpm_qfparse.proofs.Top.{whole}
 use Rattle.rpm_qfparse.proofs.Unique.{only, sound, left}
@@ -9,16 +9,16 @@ abbrev read_of : List ℕ → Reading Tree
 read_of text = reading (suc (length text)) context.Top false 0 text
 
 abbrev by_length : List ℕ → Bool → Result Tree FormatFault
-by_length text v = cond v (Err (record { kind = TooLong; at = 65536 })) (placed text (read_of text))
+by_length text v = cond v (Err (record { kind = TooLong; at = 65536 })) (placed_result text (read_of text))
 
 -- ---- what the rules give
 
 placed_by : (text : List ℕ) (v : Bool) (a : Reading Tree) → nat_lt 65536 (length text) ≡ v → length text ≤ 65536 → Gives context.Top false 0 text a
-    → by_length text v ≡ placed text a
+    → by_length text v ≡ placed_result text a
 placed_by text true a e le g = let lt : 65536 < length text = ltb-true _ _ e in absurd (omega arith)
-placed_by text false a e le g = ap (placed text) (only g (suc (length text)) (omega arith))
+placed_by text false a e le g = ap (placed_result text) (only g (suc (length text)) (omega arith))
 
-pub format_placed : (text : List ℕ) (a : Reading Tree) → length text ≤ 65536 → Gives context.Top false 0 text a → format text ≡ placed text a
+pub format_placed : (text : List ℕ) (a : Reading Tree) → length text ≤ 65536 → Gives context.Top false 0 text a → format text ≡ placed_result text a
 unfolding format
 format_placed text a le g = placed_by text _ a refl le g
 
@@ -32,7 +32,7 @@ format_long text lt = long_by text _ refl lt
 
 -- ---- each text has a result
 
-placed_is : (text : List ℕ) (a : Reading Tree) → length text ≤ 65536 → Gives context.Top false 0 text a → IsFormat text (placed text a)
+placed_is : (text : List ℕ) (a : Reading Tree) → length text ≤ 65536 → Gives context.Top false 0 text a → IsFormat text (placed_result text a)
 placed_is text (Ok x) le g = (le, subst (λ rest. Gives context.Top false 0 text (Ok (x.0, rest))) (whole g) g)
 placed_is text (Err e) le g = let near : length e.1 ≤ length text = left g in inr (le, e.1, g, omega arith)
 
@@ -46,7 +46,7 @@ format_is text = is_by text _ refl
 
 -- ---- and no other
 
-same_place : (text rest : List ℕ) (fault : FormatFault) → fault.at + length rest ≡ length text → placed text (Err (fault.kind, rest)) ≡ Err fault
+same_place : (text rest : List ℕ) (fault : FormatFault) → fault.at + length rest ≡ length text → placed_result text (Err (fault.kind, rest)) ≡ Err fault
 same_place text rest fault e = let same : length text - length rest ≡ fault.at = omega arith in ap (λ n. Err (record { kind = fault.kind; at = n })) same
 
 pub format_only : (text : List ℕ) (r : Result Tree FormatFault) → IsFormat text r → r ≡ format text

@@ -1,7 +1,7 @@
 -- What each tree that is read has, and that no fault is want of memory.
 use Rattle.std.proofs.Common.{◌≡◌, ℕ, ◌+◌, ◌<◌, ◌≤◌, List, [], ◌∷◌, drop, Bool, true, false, cond, Result, Ok, Err, refl, arith, subst, nat_le, leb-false, ◌==◌, if◌then◌else◌}
-use Rattle.rpm_qfparse.proofs.Vocabulary.{asked, Asks, asks, at_end, begins, behind, behind_second, between, Bracket, bracket, Branches, close, Condition}
-use Rattle.rpm_qfparse.proofs.Vocabulary.{condition, Context, End, Ends, ends, escaped, Faulty, Gives, in_bracket, in_condition, in_first, in_second}
+use Rattle.rpm_qfparse.proofs.Vocabulary.{asked_tag, Asks, asks_tag, at_end, begins, behind_part, behind_second, between, Bracket, bracket, Branches, close, Condition}
+use Rattle.rpm_qfparse.proofs.Vocabulary.{condition, Context, End, Ends, ends, escaped_move, Faulty, Gives, in_bracket, in_condition, in_first, in_second}
 use Rattle.rpm_qfparse.proofs.Vocabulary.{is_bracket, is_branch, IsProper, Literal, literal, Move, move_of, NestedBracket, one, Opens, percent, Reading}
 use Rattle.rpm_qfparse.proofs.Vocabulary.{second_follows, Shows, shows, Stops, stops, Tag, tag, tag_part, Tagged, TagPart, Text, TooDeep, Tree, two}
 use Rattle.rpm_qfparse.proofs.Vocabulary.{UnexpectedBrace, UnexpectedBracket, with_byte}
@@ -26,22 +26,22 @@ shows_allowed : (ib : Bool) (d : ℕ) (x : Reading TagPart) → Keeps IsNarrowPa
 shows_allowed ib d (Ok x) h = h
 shows_allowed ib d (Err e) h = h
 
-asks_allowed : (ib : Bool) (d : ℕ) (x : Reading Tag) → d < 16 → Keeps Any x → Allowed ib d (asks x)
+asks_allowed : (ib : Bool) (d : ℕ) (x : Reading Tag) → d < 16 → Keeps Any x → Allowed ib d (asks_tag x)
 asks_allowed ib d (Ok x) lt h = lt
 asks_allowed ib d (Err e) lt h = h
 
-condition_by : (ib : Bool) (d : ℕ) (here s : List ℕ) (v : Bool) → nat_le 16 d ≡ v → Allowed ib d (asks (cond v (Err (TooDeep, here)) (asked s)))
+condition_by : (ib : Bool) (d : ℕ) (here s : List ℕ) (v : Bool) → nat_le 16 d ≡ v → Allowed ib d (asks_tag (cond v (Err (TooDeep, here)) (asked_tag s)))
 condition_by ib d here s true e = λ p. absurd (cc)
-condition_by ib d here s false e = asks_allowed ib d (asked s) (leb-false _ _ e) (asked_keeps s)
+condition_by ib d here s false e = asks_allowed ib d (asked_tag s) (leb-false _ _ e) (asked_keeps s)
 
-condition_allowed : (ib : Bool) (d : ℕ) (here s : List ℕ) → Allowed ib d (asks (moves.condition d here s))
+condition_allowed : (ib : Bool) (d : ℕ) (here s : List ℕ) → Allowed ib d (asks_tag (moves.condition d here s))
 unfolding moves.condition
 condition_allowed ib d here s = condition_by ib d here s _ refl
 
 percent_allowed : (ib : Bool) (d : ℕ) (here s : List ℕ) → Allowed ib d (percent d here s)
 percent_allowed ib d here s =
     allowed_if ib d (begins 37 s) (Literal 37 (drop 1 s)) _ tt
-    (allowed_if ib d (begins 124 s) (asks (moves.condition d here (drop 1 s))) _ (condition_allowed ib d here (drop 1 s))
+    (allowed_if ib d (begins 124 s) (asks_tag (moves.condition d here (drop 1 s))) _ (condition_allowed ib d here (drop 1 s))
     (shows_allowed ib d (tag_part s) (tag_part_keeps s)))
 
 end_allowed : (ib : Bool) (d : ℕ) (c : Context) → Allowed ib d (at_end c)
@@ -49,7 +49,7 @@ end_allowed ib d context.Top = tt
 end_allowed ib d context.Bracket = λ p. absurd (cc)
 end_allowed ib d context.Branch = λ p. absurd (cc)
 
-escaped_allowed : (ib : Bool) (d : ℕ) (s : List ℕ) → Allowed ib d (escaped s)
+escaped_allowed : (ib : Bool) (d : ℕ) (s : List ℕ) → Allowed ib d (escaped_move s)
 escaped_allowed ib d [] = tt
 escaped_allowed ib d (b ∷ s) = tt
 
@@ -61,7 +61,7 @@ move_allowed : (c : Context) (ib : Bool) (d : ℕ) (s : List ℕ) → Allowed ib
 unfolding move_of
 move_allowed c ib d [] = end_allowed ib d c
 move_allowed c ib d (b ∷ s) =
-    allowed_if ib d (b == 92) (escaped s) _ (escaped_allowed ib d s)
+    allowed_if ib d (b == 92) (escaped_move s) _ (escaped_allowed ib d s)
     (allowed_if ib d (b == 91) (if ib then Stops (NestedBracket, b ∷ s) else Opens s) _ (opens_allowed d (b ∷ s) s ib)
     (allowed_if ib d (b == 93) (if is_bracket c then Ends s else Stops (UnexpectedBracket, b ∷ s)) _ (allowed_if ib d (is_bracket c) (Ends s)
     (Stops (UnexpectedBracket, b ∷ s)) tt (λ p. absurd (cc)))
@@ -94,7 +94,7 @@ byte_proper ib d b (Bracket inner rest) h = (omega arith, tt, h)
 byte_proper ib d b (Condition q first second rest) h = (omega arith, tt, h)
 
 behind_proper : (ib : Bool) (d : ℕ) (f : Tree → Tree) (a : Reading Tree) → ((t : Tree) → IsProper ib d t → IsProper ib d (f t))
-    → Keeps (IsProperReading ib d) a → Keeps (IsProperReading ib d) (behind f a)
+    → Keeps (IsProperReading ib d) a → Keeps (IsProperReading ib d) (behind_part f a)
 behind_proper ib d f (Ok x) g h = g x.0 h
 behind_proper ib d f (Err e) g h = h
 

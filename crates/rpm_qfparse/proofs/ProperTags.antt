@@ -1,8 +1,8 @@
 -- Tags that are read are narrow, and no fault of a tag or a condition is want of memory.
 use Rattle.std.proofs.Common.{◌≡◌, ◌≢◌, ℕ, ◌+◌, ◌≤◌, List, [], length, drop, Bool, true, false, cond, Option, Some, None, Result, Ok, Err, refl, nat_lt, ltb-false, ◌==◌, if◌then◌else◌}
-use Rattle.rpm_qfparse.proofs.Vocabulary.{after_number, asked, BarExpected, begins, BraceExpected, close, Faulty, formatter, MissingClose, MissingOpen}
-use Rattle.rpm_qfparse.proofs.Vocabulary.{name_and_show, named, NoMemory, number_of, or_fault, QuestionExpected, Reading, Role, role, second_follows, show_of}
-use Rattle.rpm_qfparse.proofs.Vocabulary.{side, split_once, tag_inside, tag_of, tag_part, TagPart, UnknownFormatter, UnknownTag, width, WidthTooLarge, ◌>>=◌}
+use Rattle.rpm_qfparse.proofs.Vocabulary.{after_number, asked_tag, BarExpected, begins, BraceExpected, close, Faulty, formatter, MissingClose, MissingOpen}
+use Rattle.rpm_qfparse.proofs.Vocabulary.{name_and_show, named_tag, NoMemory, number_of, or_fault, QuestionExpected, Reading, Role, role, second_follows, show_of}
+use Rattle.rpm_qfparse.proofs.Vocabulary.{side, split_once, tag_inside, tag_of, tag_part, TagPart, UnknownFormatter, UnknownTag, width_in, WidthTooLarge, ◌>>=◌}
 
 abbrev pub IsOwn : Faulty → Type 0
 IsOwn e = e.0 ≢ NoMemory
@@ -36,7 +36,7 @@ width_by : (s : List ℕ) (v : Bool) → nat_lt 4096 (number_of s) ≡ v → Kee
 width_by s true e = λ p. absurd (cc)
 width_by s false e = ltb-false _ _ e
 
-named_keeps : (name place : List ℕ) → Keeps Any (named name place)
+named_keeps : (name place : List ℕ) → Keeps Any (named_tag name place)
 named_keeps name place = if_keeps Any (length name == 0) _ _ (λ p. absurd (cc)) (or_keeps (tag_of name) (UnknownTag, place) (λ p. absurd (cc)))
 
 formatter_keeps : (name : Option (List ℕ)) (far : ℕ) (place : List ℕ) → Keeps Any (formatter name far place)
@@ -48,7 +48,7 @@ IsNarrowTag p = p.width ≤ 4096
 
 inside_keeps : (left : Bool) (size : ℕ) (r : Role) (inside place : List ℕ) → size ≤ 4096 → Keeps IsNarrowTag (tag_inside left size r inside place)
 inside_keeps left size r inside place le =
-    bind_keeps Any IsNarrowTag (named (name_and_show inside).0 place) _ (named_keeps (name_and_show inside).0 place) (λ t _.
+    bind_keeps Any IsNarrowTag (named_tag (name_and_show inside).0 place) _ (named_keeps (name_and_show inside).0 place) (λ t _.
     bind_keeps Any IsNarrowTag (formatter (name_and_show inside).1 (length (name_and_show inside).0 + 1) place) _
     (formatter_keeps (name_and_show inside).1 _ place) (λ f _. le))
 
@@ -58,7 +58,7 @@ IsNarrowPart x = x.0.width ≤ 4096
 pub tag_part_keeps : (s : List ℕ) → Keeps IsNarrowPart (tag_part s)
 unfolding tag_part
 tag_part_keeps s =
-    bind_keeps IsNarrow IsNarrowPart (width (side s).1) _ (width_by (side s).1 _ refl) (λ size le.
+    bind_keeps IsNarrow IsNarrowPart (width_in (side s).1) _ (width_by (side s).1 _ refl) (λ size le.
     let x : Reading Role = cond (begins 123 size.1) (Ok (role (drop 1 size.1))) (Err (MissingOpen, size.1)) in
     bind_keeps Any IsNarrowPart x _ (if_keeps Any (begins 123 size.1) (Ok (role (drop 1 size.1))) (Err (MissingOpen, size.1)) tt (λ p. absurd (cc))) (λ inner _.
     bind_keeps Any IsNarrowPart (or_fault (split_once 125 inner.1) (MissingClose, [])) _ (or_keeps (split_once 125 inner.1) (MissingClose, [])
@@ -66,10 +66,10 @@ tag_part_keeps s =
     bind_keeps IsNarrowTag IsNarrowPart (tag_inside (side s).0 size.0 inner.0 cut.0 inner.1) _ (inside_keeps (side s).0 size.0 inner.0 cut.0 inner.1
     le) (λ part h. h))))
 
-pub asked_keeps : (s : List ℕ) → Keeps Any (asked s)
+pub asked_keeps : (s : List ℕ) → Keeps Any (asked_tag s)
 asked_keeps s =
     bind_keeps Any Any (or_fault (split_once 63 s) (QuestionExpected, [])) _ (or_keeps (split_once 63 s) (QuestionExpected, []) (λ p. absurd (cc))) (λ cut _.
-    bind_keeps Any Any (named cut.0 s) _ (named_keeps cut.0 s) (λ t _. if_keeps Any (begins 123 cut.1) (Ok (t, drop 1 cut.1))
+    bind_keeps Any Any (named_tag cut.0 s) _ (named_keeps cut.0 s) (λ t _. if_keeps Any (begins 123 cut.1) (Ok (t, drop 1 cut.1))
     (Err (BraceExpected, cut.1)) tt (λ p. absurd (cc))))
 
 pub second_keeps : (s : List ℕ) → Keeps Any (second_follows s)

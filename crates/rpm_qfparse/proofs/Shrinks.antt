@@ -1,8 +1,8 @@
 -- What is left to read is shorter.
 use Rattle.std.proofs.Common.{ℕ, ◌+◌, ◌≤◌, List, [], length, drop, Bool, true, false, cond, Option, Some, None, Result, Ok, Err, arith, nat_lt, ◌==◌, if◌then◌else◌}
-use Rattle.rpm_qfparse.proofs.Vocabulary.{after_number, asked, BarExpected, begins, BraceExpected, close, Count, digit_count, Element, Faulty, First}
-use Rattle.rpm_qfparse.proofs.Vocabulary.{formatter, MissingClose, MissingOpen, name_and_show, named, number_of, or_fault, QuestionExpected, Reading, Role}
-use Rattle.rpm_qfparse.proofs.Vocabulary.{role, second_follows, show_of, side, split_once, tag_inside, tag_of, tag_part, UnknownFormatter, width}
+use Rattle.rpm_qfparse.proofs.Vocabulary.{after_number, asked_tag, BarExpected, begins, BraceExpected, close, Count, digit_count, Element, Faulty, First}
+use Rattle.rpm_qfparse.proofs.Vocabulary.{formatter, MissingClose, MissingOpen, name_and_show, named_tag, number_of, or_fault, QuestionExpected, Reading, Role}
+use Rattle.rpm_qfparse.proofs.Vocabulary.{role, second_follows, show_of, side, split_once, tag_inside, tag_of, tag_part, UnknownFormatter, width_in}
 use Rattle.rpm_qfparse.proofs.Vocabulary.{WidthTooLarge}
 use Rattle.rpm_qfparse.proofs.Within.{FaultWithin, RestWithin, Within, bind_within, drop_within, fault_bind, fault_if, fault_of, fault_or, ok_within, or_ok, split_within, wider, within_if}
 
@@ -18,13 +18,13 @@ role_within s =
           [ true ↦ drop_within 1 s | false ↦ omega arith ]
     ]
 
-pub width_within : (s : List ℕ) → Within (length s) (width s)
+pub width_within : (s : List ℕ) → Within (length s) (width_in s)
 unfolding after_number
 width_within s =
     elim (nat_lt 4096 (number_of s)) as (λ v. Within (length s) (cond v (Err (WidthTooLarge, s)) (Ok (number_of s, after_number s))))
     [ true ↦ omega arith | false ↦ drop_within (digit_count s) s ]
 
-pub named_within : (name place : List ℕ) → FaultWithin (length place) (named name place)
+pub named_within : (name place : List ℕ) → FaultWithin (length place) (named_tag name place)
 named_within name place = fault_if (length place) (length name == 0) _ _ (omega arith) (fault_or (length place) (tag_of name) _ (omega arith))
 
 formatter_within : (n : ℕ) (name : Option (List ℕ)) (far : ℕ) (place : List ℕ) → length place ≤ n → FaultWithin n (formatter name far place)
@@ -33,7 +33,7 @@ formatter_within n (Some name) far place le = fault_or n (show_of name) (Unknown
 
 pub inside_within : (n : ℕ) (left : Bool) (size : ℕ) (r : Role) (inside place : List ℕ) → length place ≤ n → FaultWithin n (tag_inside left size r inside place)
 inside_within n left size r inside place le =
-    fault_bind n (named (name_and_show inside).0 place) _ (raise _ n _ le (named_within (name_and_show inside).0 place)) (λ tag.
+    fault_bind n (named_tag (name_and_show inside).0 place) _ (raise _ n _ le (named_within (name_and_show inside).0 place)) (λ tag.
     fault_bind n (formatter (name_and_show inside).1 (length (name_and_show inside).0 + 1) place) _ (formatter_within n (name_and_show inside).1 _
     place le) (λ f. tt))
   where
@@ -44,9 +44,9 @@ inside_within n left size r inside place le =
 pub tag_part_within : (s : List ℕ) → Within (length s) (tag_part s)
 unfolding tag_part
 tag_part_within s =
-    let w : Within (length s) (width (side s).1) = wider (length (side s).1) (length s) (width (side s).1) (side_within s) (width_within (side s).1) in
-    bind_within (length s) (width (side s).1) _ (fault_of (length s) (width (side s).1) w) (λ size e.
-    let a : length size.1 ≤ length s = ok_within (length s) (width (side s).1) size w e in
+    let w : Within (length s) (width_in (side s).1) = wider (length (side s).1) (length s) (width_in (side s).1) (side_within s) (width_within (side s).1) in
+    bind_within (length s) (width_in (side s).1) _ (fault_of (length s) (width_in (side s).1) w) (λ size e.
+    let a : length size.1 ≤ length s = ok_within (length s) (width_in (side s).1) size w e in
     let x : Reading Role = cond (begins 123 size.1) (Ok (role (drop 1 size.1))) (Err (MissingOpen, size.1)) in
     let y : Within (length s) x = within_if (length s) (begins 123 size.1) (Ok (role (drop 1 size.1))) (Err (MissingOpen, size.1))
     (λ _. omega (arith, role_within (drop 1 size.1), drop_within 1 size.1)) a in
@@ -58,12 +58,12 @@ tag_part_within s =
     bind_within (length s) (tag_inside (side s).0 size.0 inner.0 cut.0 inner.1) _ (inside_within (length s) (side s).0 size.0 inner.0 cut.0 inner.1 b)
     (λ part h. omega arith))))
 
-pub asked_within : (s : List ℕ) → Within (length s) (asked s)
+pub asked_within : (s : List ℕ) → Within (length s) (asked_tag s)
 asked_within s =
     bind_within (length s) (or_fault (split_once 63 s) (QuestionExpected, [])) _ (fault_or (length s) (split_once 63 s) (QuestionExpected, [])
     (omega arith)) (λ cut e.
     let a : length cut.0 + length cut.1 + 1 ≤ length s = split_within 63 s cut (or_ok (split_once 63 s) (QuestionExpected, []) cut e) in
-    bind_within (length s) (named cut.0 s) _ (named_within cut.0 s) (λ tag f.
+    bind_within (length s) (named_tag cut.0 s) _ (named_within cut.0 s) (λ tag f.
     within_if (length s) (begins 123 cut.1) (Ok (tag, drop 1 cut.1)) (Err (BraceExpected, cut.1)) (λ _. omega (arith, drop_within 1 cut.1)) (omega arith)))
 
 pub second_within : (s : List ℕ) → Within (length s) (second_follows s)

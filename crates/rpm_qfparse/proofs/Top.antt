@@ -1,7 +1,7 @@
 -- At the top a format is read to its end.
 use Rattle.std.proofs.Common.{◌≡◌, ℕ, List, [], ◌∷◌, drop, Bool, true, false, cond, Ok, Err, refl, ◌==◌, if◌then◌else◌, subst}
-use Rattle.rpm_qfparse.proofs.Vocabulary.{Asks, asks, at_end, begins, behind, bracket, condition, Context, Ends, ends, escaped, Faulty, Gives, in_bracket}
-use Rattle.rpm_qfparse.proofs.Vocabulary.{in_condition, is_bracket, is_branch, Literal, literal, Move, move_of, NestedBracket, Opens, percent, Reading, Shows}
+use Rattle.rpm_qfparse.proofs.Vocabulary.{asks_tag, begins, behind_part, bracket, condition, Context, Ends, ends, escaped_move, Faulty, Gives, in_bracket}
+use Rattle.rpm_qfparse.proofs.Vocabulary.{in_condition, Literal, literal, Move, move_of, NestedBracket, Opens, percent, Reading}
 use Rattle.rpm_qfparse.proofs.Vocabulary.{shows, Stops, stops, Tag, tag, tag_part, TagPart, Tree, UnexpectedBrace, UnexpectedBracket}
 use Rattle.rpm_qfparse.specs.declared.moves.Context.TheVariants as context
 use Rattle.rpm_qfparse.specs.Moves as moves
@@ -19,11 +19,11 @@ shows_on : (x : Reading TagPart) → GoesOn (shows x)
 shows_on (Ok x) = tt
 shows_on (Err e) = tt
 
-asks_on : (x : Reading Tag) → GoesOn (asks x)
+asks_on : (x : Reading Tag) → GoesOn (asks_tag x)
 asks_on (Ok x) = tt
 asks_on (Err e) = tt
 
-escaped_on : (s : List ℕ) → GoesOn (escaped s)
+escaped_on : (s : List ℕ) → GoesOn (escaped_move s)
 escaped_on [] = tt
 escaped_on (b ∷ s) = tt
 
@@ -31,12 +31,12 @@ move_on : (ib : Bool) (d : ℕ) (s : List ℕ) → GoesOn (move_of context.Top i
 unfolding move_of
 move_on ib d [] = refl
 move_on ib d (b ∷ s) =
-    if_on (b == 92) (escaped s) _ (escaped_on s)
+    if_on (b == 92) (escaped_move s) _ (escaped_on s)
     (if_on (b == 91) (if ib then Stops (NestedBracket, b ∷ s) else Opens s) _ (if_on ib (Stops (NestedBracket, b ∷ s)) (Opens s) tt tt)
     (if_on (b == 93) (Stops (UnexpectedBracket, b ∷ s)) _ tt
     (if_on (b == 125) (Stops (UnexpectedBrace, b ∷ s)) _ tt
     (if_on (b == 37) (percent d (b ∷ s) s) (Literal b s)
-    (if_on (begins 37 s) (Literal 37 (drop 1 s)) _ tt (if_on (begins 124 s) (asks (moves.condition d (b ∷ s) (drop 1 s))) _ (asks_on _)
+    (if_on (begins 37 s) (Literal 37 (drop 1 s)) _ tt (if_on (begins 124 s) (asks_tag (moves.condition d (b ∷ s) (drop 1 s))) _ (asks_on _)
     (shows_on (tag_part s)))) tt))))
 
 -- nothing is left of what is read at the top
@@ -44,7 +44,7 @@ abbrev pub IsWhole : Reading Tree → Type 0
 IsWhole (Ok x) = x.1 ≡ []
 IsWhole (Err e) = Unit {0}
 
-behind_whole : (f : Tree → Tree) (a : Reading Tree) → IsWhole a → IsWhole (behind f a)
+behind_whole : (f : Tree → Tree) (a : Reading Tree) → IsWhole a → IsWhole (behind_part f a)
 behind_whole f (Ok x) h = h
 behind_whole f (Err e) h = tt
 
@@ -55,7 +55,7 @@ abbrev AtTop : Context → Reading Tree → Type 0
 AtTop context.Top a = IsWhole a
 AtTop _ a = Unit {0}
 
-behind_top : (c : Context) (f : Tree → Tree) (a : Reading Tree) → AtTop c a → AtTop c (behind f a)
+behind_top : (c : Context) (f : Tree → Tree) (a : Reading Tree) → AtTop c a → AtTop c (behind_part f a)
 behind_top context.Top f a h = behind_whole f a h
 behind_top context.Bracket f a h = tt
 behind_top context.Branch f a h = tt

@@ -1,8 +1,8 @@
 -- Each text is read as one tree or one fault.
 use Rattle.std.proofs.Common.{◌≡◌, ℕ, zero, suc, ◌+◌, ◌<◌, ◌≤◌, List, length, Bool, true, false, Result, Ok, Err, refl, ◌∙◌, ap, arith, subst, if◌then◌else◌}
-use Rattle.rpm_qfparse.proofs.Vocabulary.{Asks, behind, behind_second, between, Bracket, bracket, Branches, branches_by, close, Condition, condition, Context}
+use Rattle.rpm_qfparse.proofs.Vocabulary.{Asks, behind_part, behind_second, between, Bracket, bracket, Branches, branches_by, close, Condition, condition, Context}
 use Rattle.rpm_qfparse.proofs.Vocabulary.{Ends, ends, Faulty, Gives, in_bracket, in_condition, in_first, in_second, Literal, literal, Move, move_of, one}
-use Rattle.rpm_qfparse.proofs.Vocabulary.{Opens, Reading, reading, second_follows, Shows, step, Stops, stops, tag, Tagged, Tree, two, with_byte, ◌>>=◌}
+use Rattle.rpm_qfparse.proofs.Vocabulary.{Opens, Reading, reading, second_follows, Shows, next_step, Stops, stops, tag, Tagged, Tree, two, with_byte, ◌>>=◌}
 use Rattle.rpm_qfparse.specs.declared.moves.Context.TheVariants as context
 use Rattle.rpm_qfparse.proofs.Shrinks.{second_within, close_within}
 use Rattle.rpm_qfparse.proofs.Within.{Within, RestWithin, wider}
@@ -11,7 +11,7 @@ use Rattle.rpm_qfparse.proofs.Smaller.{Smaller, move_smaller}
 pub moved : (c : Context) (ib : Bool) (d : ℕ) (s : List ℕ) (m : Move) → move_of c ib d s ≡ m → Smaller (length s) m
 moved c ib d s m e = let P : Move → Type 0 = Smaller (length s) in subst P e (move_smaller c ib d s)
 
-behind_within : (n : ℕ) (f : Tree → Tree) (a : Reading Tree) → Within n a → Within n (behind f a)
+behind_within : (n : ℕ) (f : Tree → Tree) (a : Reading Tree) → Within n a → Within n (behind_part f a)
 behind_within n f (Ok x) h = h
 behind_within n f (Err e) h = h
 
@@ -58,29 +58,29 @@ mutual
 
   pub only : {c : Context} {ib : Bool} {d : ℕ} {s : List ℕ} {a : Reading Tree} → Gives c ib d s a → (n : ℕ) → length s < n → reading n c ib d s ≡ a
   only g zero lt = absurd (omega arith)
-  only (ends {c = c} {ib = ib} {d = d} e) (suc n) lt = ap (step (reading n) c ib d) e
-  only (stops {c = c} {ib = ib} {d = d} e) (suc n) lt = ap (step (reading n) c ib d) e
+  only (ends {c = c} {ib = ib} {d = d} e) (suc n) lt = ap (next_step (reading n) c ib d) e
+  only (stops {c = c} {ib = ib} {d = d} e) (suc n) lt = ap (next_step (reading n) c ib d) e
   only (literal {c = c} {ib = ib} {d = d} {b = b} {t = t} e g) (suc n) lt =
       let k : length t < _ = moved _ _ _ _ _ e in
-      ap (step (reading n) c ib d) e ∙ ap (behind (with_byte b)) (only g n (omega arith))
+      ap (next_step (reading n) c ib d) e ∙ ap (behind_part (with_byte b)) (only g n (omega arith))
   only (tag {c = c} {ib = ib} {d = d} {p = p} {t = t} e g) (suc n) lt =
       let k : length t < _ = moved _ _ _ _ _ e in
-      ap (step (reading n) c ib d) e ∙ ap (behind (Tagged p)) (only g n (omega arith))
+      ap (next_step (reading n) c ib d) e ∙ ap (behind_part (Tagged p)) (only g n (omega arith))
   only (bracket {c = c} {ib = ib} {d = d} {t = t} {inner = inner} {u = u} e g h) (suc n) lt =
       let k : length t < _ = moved _ _ _ _ _ e in
       let l : length u ≤ length t = left g in
-      ap (step (reading n) c ib d) e ∙ rw (only g n (omega arith)) (ap (behind (Bracket inner)) (only h n (omega arith)))
+      ap (next_step (reading n) c ib d) e ∙ rw (only g n (omega arith)) (ap (behind_part (Bracket inner)) (only h n (omega arith)))
   only (in_bracket {c = c} {ib = ib} {d = d} {t = t} e g) (suc n) lt =
       let k : length t < _ = moved _ _ _ _ _ e in
-      ap (step (reading n) c ib d) e ∙ rw (only g n (omega arith)) refl
+      ap (next_step (reading n) c ib d) e ∙ rw (only g n (omega arith)) refl
   only (condition {c = c} {ib = ib} {d = d} {q = q} {t = t} {first = first} {second = second} {u = u} e g h) (suc n) lt =
       let k : length t < _ = moved _ _ _ _ _ e in
       let l : length u ≤ length t = left_of g in
-      ap (step (reading n) c ib d) e ∙ ap (λ x. x >>= λ x. behind (Condition q x.0.0 x.0.1) (reading n c ib d x.1)) (only_of g n (omega arith))
-      ∙ ap (behind (Condition q first second)) (only h n (omega arith))
+      ap (next_step (reading n) c ib d) e ∙ ap (λ x. x >>= λ x. behind_part (Condition q x.0.0 x.0.1) (reading n c ib d x.1)) (only_of g n (omega arith))
+      ∙ ap (behind_part (Condition q first second)) (only h n (omega arith))
   only (in_condition {c = c} {ib = ib} {d = d} {q = q} {t = t} e g) (suc n) lt =
       let k : length t < _ = moved _ _ _ _ _ e in
-      ap (step (reading n) c ib d) e ∙ ap (λ x. x >>= λ x. behind (Condition q x.0.0 x.0.1) (reading n c ib d x.1)) (only_of g n (omega arith))
+      ap (next_step (reading n) c ib d) e ∙ ap (λ x. x >>= λ x. behind_part (Condition q x.0.0 x.0.1) (reading n c ib d x.1)) (only_of g n (omega arith))
 
   pub only_of : {ib : Bool} {d : ℕ} {s : List ℕ} {a : Reading (Tree × Tree)} → Branches ib d s a → (n : ℕ) → length s < n → branches_by (reading n) ib d s ≡ a
   only_of (one {t = t} g e) n lt = rw (only g n lt, e) refl
@@ -125,7 +125,7 @@ module _ (n : ℕ) (sound_n : (c : Context) (ib : Bool) (d : ℕ) (s : List ℕ)
       (λ v. one g (f ∙ ap (λ w. Ok (w, more.1)) v))))
 
   sound_by : (c : Context) (ib : Bool) (d : ℕ) (s : List ℕ) (m : Move) → length s ≤ n → move_of c ib d s ≡ m → Smaller (length s) m → Gives c ib d s
-      (step (reading n) c ib d m)
+      (next_step (reading n) c ib d m)
   sound_by c ib d s (Ends r) lt e k = ends e
   sound_by c ib d s (Stops x) lt e k = stops e
   sound_by c ib d s (Literal b t) lt e k = literal e (sound_n c ib d t (omega arith))

@@ -1,5 +1,6 @@
 -- What a format is read as.
-use Rattle.std.specs.Prelude.{◌≡◌, ℕ, zero, suc, ◌+◌, ◌-◌, List, [], ◌∷◌, length, Result, Ok, Err, Bool, true, false, nat_lt, if◌then◌else◌}
+use Rattle.std.specs.Prelude.{◌≡◌, ℕ, zero, suc, ◌+◌, ◌-◌, List, [], ◌∷◌, length, Result, Ok, Err, Bool, true, false}
+use Rattle.std.specs.Prelude.{nat_lt, if◌then◌else◌}
 use Rattle.rpm_tags.specs.declared.tag.Tag.{Tag}
 use Rattle.rpm_qfparse.specs.declared.fault.FormatKind.TheVariants.{TooLong}
 use Rattle.rpm_qfparse.specs.declared.fault.FormatFault.{FormatFault}
@@ -16,12 +17,13 @@ with_byte b (Text bytes rest) = Text (b ∷ bytes) rest
 with_byte b tree = Text (b ∷ []) tree
 
 -- a part in front of what is read
-abbrev pub behind : (Tree → Tree) → Reading Tree → Reading Tree
-behind part (Ok x) = Ok (part x.0, x.1)
-behind part (Err e) = Err e
+abbrev pub behind_part : (Tree → Tree) → Reading Tree → Reading Tree
+behind_part part (Ok x) = Ok (part x.0, x.1)
+behind_part part (Err e) = Err e
 
--- Gives c in_bracket depth s a: from s on the context c is read up to its end as a, a tree with the bytes after it or the
--- first fault. Branches in_bracket depth s a: so are the branches of a condition, after the first brace. By what s begins with:
+-- Gives c in_bracket depth s a: from s on the context c is read up to its end as a, a tree with the bytes after it or
+-- the first fault. Branches in_bracket depth s a: so are the branches of a condition, after the first brace. By what s
+-- begins with:
 mutual
   pub data Gives : Context → Bool → ℕ → List ℕ → Reading Tree → Type 0 where
     -- the context ends here, with no further part
@@ -34,21 +36,22 @@ mutual
     -- a byte or a tag stands in front of what follows it
     literal : {c : Context} {ib : Bool} {d : ℕ} {s : List ℕ} {b : ℕ} {t : List ℕ} {a : Reading Tree}
         → move_of c ib d s ≡ Literal b t → Gives c ib d t a
-        → Gives c ib d s (behind (with_byte b) a)
+        → Gives c ib d s (behind_part (with_byte b) a)
     tag : {c : Context} {ib : Bool} {d : ℕ} {s : List ℕ} {p : TagPart} {t : List ℕ} {a : Reading Tree}
         → move_of c ib d s ≡ Shows p t → Gives c ib d t a
-        → Gives c ib d s (behind (Tagged p) a)
+        → Gives c ib d s (behind_part (Tagged p) a)
     -- a bracket is read up to its own end, and what follows it in the context
     bracket : {c : Context} {ib : Bool} {d : ℕ} {s t : List ℕ} {inner : Tree} {u : List ℕ} {a : Reading Tree}
         → move_of c ib d s ≡ Opens t → Gives context.Bracket true d t (Ok (inner, u)) → Gives c ib d u a
-        → Gives c ib d s (behind (Bracket inner) a)
+        → Gives c ib d s (behind_part (Bracket inner) a)
     in_bracket : {c : Context} {ib : Bool} {d : ℕ} {s t : List ℕ} {e : Faulty}
         → move_of c ib d s ≡ Opens t → Gives context.Bracket true d t (Err e)
         → Gives c ib d s (Err e)
     -- and so is a condition
-    condition : {c : Context} {ib : Bool} {d : ℕ} {s : List ℕ} {q : Tag} {t : List ℕ} {first second : Tree} {u : List ℕ} {a : Reading Tree}
+    condition : {c : Context} {ib : Bool} {d : ℕ} {s : List ℕ} {q : Tag} {t : List ℕ} {first second : Tree} {u : List ℕ}
+        {a : Reading Tree}
         → move_of c ib d s ≡ Asks q t → Branches ib d t (Ok ((first, second), u)) → Gives c ib d u a
-        → Gives c ib d s (behind (Condition q first second) a)
+        → Gives c ib d s (behind_part (Condition q first second) a)
     in_condition : {c : Context} {ib : Bool} {d : ℕ} {s : List ℕ} {q : Tag} {t : List ℕ} {e : Faulty}
         → move_of c ib d s ≡ Asks q t → Branches ib d t (Err e)
         → Gives c ib d s (Err e)
@@ -89,25 +92,27 @@ branches_by read ib d s = do
       else Ok ((first.0, End), more.1)
 
 -- what a context reads by what it begins with
-abbrev pub step : (Context → Bool → ℕ → List ℕ → Reading Tree) → Context → Bool → ℕ → Move → Reading Tree
-step read c ib d (Ends r) = Ok (End, r)
-step read c ib d (Stops e) = Err e
-step read c ib d (Literal b t) = behind (with_byte b) (read c ib d t)
-step read c ib d (Shows p t) = behind (Tagged p) (read c ib d t)
-step read c ib d (Opens t) = read context.Bracket true d t >>= λ x. behind (Bracket x.0) (read c ib d x.1)
-step read c ib d (Asks q t) = branches_by read ib d t >>= λ x. behind (Condition q x.0.0 x.0.1) (read c ib d x.1)
+abbrev pub next_step : (Context → Bool → ℕ → List ℕ → Reading Tree) → Context → Bool → ℕ → Move → Reading Tree
+next_step read c ib d (Ends r) = Ok (End, r)
+next_step read c ib d (Stops e) = Err e
+next_step read c ib d (Literal b t) = behind_part (with_byte b) (read c ib d t)
+next_step read c ib d (Shows p t) = behind_part (Tagged p) (read c ib d t)
+next_step read c ib d (Opens t) = read context.Bracket true d t >>= λ x. behind_part (Bracket x.0) (read c ib d x.1)
+next_step read c ib d (Asks q t) =
+    branches_by read ib d t >>= λ x. behind_part (Condition q x.0.0 x.0.1) (read c ib d x.1)
 
 -- what is read in at most so many steps: in none, nothing
 unfoldable pub reading : ℕ → Context → Bool → ℕ → List ℕ → Reading Tree
 reading zero c ib d s = Ok (End, s)
-reading (suc n) c ib d s = step (reading n) c ib d (move_of c ib d s)
+reading (suc n) c ib d s = next_step (reading n) c ib d (move_of c ib d s)
 
 -- the tree alone, or the fault with its place in the text
-abbrev pub placed : List ℕ → Reading Tree → Result Tree FormatFault
-placed text (Ok x) = Ok x.0
-placed text (Err e) = Err (record { kind = e.0; at = length text - length e.1 })
+abbrev pub placed_result : List ℕ → Reading Tree → Result Tree FormatFault
+placed_result text (Ok x) = Ok x.0
+placed_result text (Err e) = Err (record { kind = e.0; at = length text - length e.1 })
 
 -- the tree of a text, or its first fault
 unfoldable pub format : List ℕ → Result Tree FormatFault
-format text = if nat_lt 65536 (length text) then Err (record { kind = TooLong; at = 65536 }) else placed text (reading (suc (length text)) context.Top
+format text = if nat_lt 65536 (length text) then Err (record { kind = TooLong; at = 65536 })
+    else placed_result text (reading (suc (length text)) context.Top
     false 0 text)

@@ -13,8 +13,8 @@ abbrev pub Reads : Context → Bool → ℕ → List ℕ → Tree → List ℕ �
 Reads c in_bracket depth s tree rest = Gives c in_bracket depth s (Ok (tree, rest))
 
 -- A text has this fault first, from whose place on it has these bytes.
-abbrev pub Fails : Context → Bool → ℕ → List ℕ → FormatKind → List ℕ → Type 0
-Fails c in_bracket depth s kind rest = Gives c in_bracket depth s (Err (kind, rest))
+abbrev pub FormatFails : Context → Bool → ℕ → List ℕ → FormatKind → List ℕ → Type 0
+FormatFails c in_bracket depth s kind rest = Gives c in_bracket depth s (Err (kind, rest))
 
 -- the text has more than 65,536 bytes, and that is its fault
 abbrev pub IsTooLong : List ℕ → FormatFault → Type 0
@@ -22,7 +22,8 @@ IsTooLong text fault = (65536 < length text) × (fault ≡ record { kind = TooLo
 
 -- the place of a fault counts the bytes in front of it
 abbrev pub IsFault : List ℕ → FormatFault → Type 0
-IsFault text fault = (length text ≤ 65536) × (rest : List ℕ) × Fails context.Top false 0 text fault.kind rest × (fault.at + length rest ≡ length text)
+IsFault text fault = (length text ≤ 65536) × (rest : List ℕ) × FormatFails context.Top false 0 text fault.kind rest
+    × (fault.at + length rest ≡ length text)
 
 -- a text is a tree that has all of it in it, or it has a fault
 abbrev pub IsFormat : List ℕ → Result Tree FormatFault → Type 0
@@ -40,6 +41,8 @@ abbrev pub IsProper : Bool → ℕ → Tree → Type 0
 IsProper in_bracket depth End = Unit {0}
 IsProper in_bracket depth (Text bytes rest) = (0 < length bytes) × BeginsApart rest × IsProper in_bracket depth rest
 IsProper in_bracket depth (Tagged part rest) = (part.width ≤ 4096) × IsProper in_bracket depth rest
-IsProper in_bracket depth (Bracket inner rest) = (in_bracket ≡ false) × IsProper true depth inner × IsProper in_bracket depth rest
+IsProper in_bracket depth (Bracket inner rest) = (in_bracket ≡ false) × IsProper true depth inner
+    × IsProper in_bracket depth rest
 IsProper in_bracket depth (Condition tag first second rest) =
-    (depth < 16) × IsProper in_bracket (depth + 1) first × IsProper in_bracket (depth + 1) second × IsProper in_bracket depth rest
+    (depth < 16) × IsProper in_bracket (depth + 1) first × IsProper in_bracket (depth + 1) second
+    × IsProper in_bracket depth rest

@@ -6,3 +6,4 @@ pub mod Shape
 pub mod Tag
 pub mod Tree
 pub mod inner
+pub mod laws

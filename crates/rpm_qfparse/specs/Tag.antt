@@ -1,5 +1,6 @@
 -- A tag of a format, after its percent.
-use Rattle.std.specs.Prelude.{ℕ, ◌+◌, List, [], ◌∷◌, codes, length, take, drop, Option, Some, None, Result, Ok, Err, Bool, true, false, nat_lt, nat_eq, ◌==◌, if◌then◌else◌}
+use Rattle.std.specs.Prelude.{ℕ, ◌+◌, List, [], ◌∷◌, codes, length, take, drop, Option, Some, None, Result, Ok, Err}
+use Rattle.std.specs.Prelude.{Bool, true, false, nat_lt, nat_eq, ◌==◌, if◌then◌else◌}
 use Rattle.std.specs.Char.{is_ascii_digit}
 use Rattle.std.specs.List.{position, prefix_len}
 use Rattle.std.specs.Str.Parse.{digits_value}
@@ -8,7 +9,8 @@ use Rattle.std.specs.Option.{option_map}
 use Rattle.rpm_tags.specs.declared.tag.Tag.{Tag}
 use Rattle.rpm_tags.specs.Table.{tag_of}
 use Rattle.rpm_qfparse.specs.declared.fault.FormatKind.{FormatKind}
-use Rattle.rpm_qfparse.specs.declared.fault.FormatKind.TheVariants.{MissingOpen, MissingClose, EmptyTag, UnknownTag, UnknownFormatter, WidthTooLarge}
+use Rattle.rpm_qfparse.specs.declared.fault.FormatKind.TheVariants.{MissingOpen, MissingClose, EmptyTag, UnknownTag}
+use Rattle.rpm_qfparse.specs.declared.fault.FormatKind.TheVariants.{UnknownFormatter, WidthTooLarge}
 use Rattle.rpm_qfparse.specs.declared.tree.Role.{Role}
 use Rattle.rpm_qfparse.specs.declared.tree.Role.TheVariants.{Element, First, Count}
 use Rattle.rpm_qfparse.specs.declared.tree.Show.{Show}
@@ -64,8 +66,8 @@ unfoldable pub after_number : List ℕ → List ℕ
 after_number s = drop (digit_count s) s
 
 -- the width, at most 4,096, and what follows it
-abbrev pub width : List ℕ → Reading ℕ
-width s = if nat_lt 4096 (number_of s) then Err (WidthTooLarge, s) else Ok (number_of s, after_number s)
+abbrev pub width_in : List ℕ → Reading ℕ
+width_in s = if nat_lt 4096 (number_of s) then Err (WidthTooLarge, s) else Ok (number_of s, after_number s)
 
 -- a `=` (61) or a `#` (35)
 abbrev pub role : List ℕ → Role × List ℕ
@@ -74,12 +76,12 @@ role s = if begins 61 s then (First, drop 1 s) else if begins 35 s then (Count, 
 -- ---- the name and the formatter
 
 -- the tag of a name that stands at a place
-abbrev pub named : List ℕ → List ℕ → Result Tag Faulty
-named name place = if length name == 0 then Err (EmptyTag, place) else or_fault (tag_of name) (UnknownTag, place)
+abbrev pub named_tag : List ℕ → List ℕ → Result Tag Faulty
+named_tag name place = if length name == 0 then Err (EmptyTag, place) else or_fault (tag_of name) (UnknownTag, place)
 
 -- the names of the formatters
-unfoldable pub table : List (Show × List ℕ)
-table =
+unfoldable pub formatter_table : List (Show × List ℕ)
+formatter_table =
     (show.Plain, codes "string") ∷
     (show.Hex, codes "hex") ∷
     (show.Octal, codes "octal") ∷
@@ -100,7 +102,7 @@ show_in (row ∷ rows) name = if pointwise nat_eq name row.1 then Some row.0 els
 
 -- the formatter of a name
 abbrev pub show_of : List ℕ → Option Show
-show_of name = show_in table name
+show_of name = show_in formatter_table name
 
 -- the two pieces of a cut, or all of it and no second piece
 abbrev pub cut_or_whole : Option (List ℕ × List ℕ) → List ℕ → List ℕ × Option (List ℕ)
@@ -119,16 +121,17 @@ formatter (Some name) far place = or_fault (show_of name) (UnknownFormatter, dro
 -- what stands between the braces, and begins at a place
 abbrev pub tag_inside : Bool → ℕ → Role → List ℕ → List ℕ → Result TagPart Faulty
 tag_inside left size r inside place = do
-  tag ← named (name_and_show inside).0 place
+  tag ← named_tag (name_and_show inside).0 place
   f ← formatter (name_and_show inside).1 (length (name_and_show inside).0 + 1) place
   Ok (record { tag = tag; role = r; left = left; width = size; show = f })
 
--- ---- the whole tag, in the order of reading: `-`, the width, `{` (123), `=` or `#`, and up to `}` (125) name and formatter
+-- ---- the whole tag, in the order of reading: `-`, the width, `{` (123), `=` or `#`, and up to `}` (125) name and
+-- formatter
 
 -- the tag of a format after its percent, and what follows its `}`
 unfoldable pub tag_part : List ℕ → Reading TagPart
 tag_part s = do
-  size ← width (side s).1
+  size ← width_in (side s).1
   inner ← if begins 123 size.1 then Ok (role (drop 1 size.1)) else Err (MissingOpen, size.1)
   cut ← or_fault (split_once 125 inner.1) (MissingClose, [])
   part ← tag_inside (side s).0 size.0 inner.0 cut.0 inner.1

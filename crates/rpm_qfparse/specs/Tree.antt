@@ -3,8 +3,8 @@ use Rattle.std.specs.Prelude.{ℕ, ◌+◌, List}
 use Rattle.rpm_tags.specs.declared.tag.Tag.{Tag}
 use Rattle.rpm_qfparse.specs.declared.tree.TagPart.{TagPart}
 
--- The first part, with the parts after it: literal bytes, a tag, a bracket with the parts in it, or a condition with the
--- parts of its two branches.
+-- The first part, with the parts after it: literal bytes, a tag, a bracket with the parts in it, or a condition with
+-- the parts of its two branches.
 pub data Tree : Type 0 where
   End : Tree
   Text : List ℕ → Tree → Tree

@@ -1,7 +1,7 @@
 //! Parts that are being collected.
 
 ghost use Rattle.std.specs.Prelude.{◌≡◌, OnOk, IfOk};
-ghost use Rattle.rpm_qfparse.specs.Prelude.{after, End, in_front, IsFlushed, IsNoText, Tree, with_byte};
+ghost use Rattle.rpm_qfparse.specs.Prelude.{in_front_of, End, in_front, IsFlushed, IsNoText, Tree, with_byte};
 
 use crate::tree::{Bytes, Part, Parts};
 use std::alloc::{AllocError, Global};
@@ -17,7 +17,7 @@ pub(crate) struct Draft {
 
 impl Draft {
     pub(crate) fn new(alloc: Global) -> Draft
-        ensures { (rest : Tree) → after result rest ≡ rest }
+        ensures { (rest : Tree) → in_front_of result rest ≡ rest }
     {
         Draft {
             alloc,
@@ -27,7 +27,7 @@ impl Draft {
     }
 
     pub(crate) fn push_byte(&mut self, byte: u8) -> Result<(), AllocError>
-        ensures { OnOk result ((rest : Tree) → after self.new rest ≡ after self.old (with_byte byte rest)) }
+        ensures { OnOk result ((rest : Tree) → in_front_of self.new rest ≡ in_front_of self.old (with_byte byte rest)) }
     {
         self.text.push(byte)?;
         Ok(())
@@ -46,7 +46,7 @@ impl Draft {
 
     pub(crate) fn push(&mut self, part: Part) -> Result<(), AllocError>
         requires { IsNoText part }
-        ensures { OnOk result ((rest : Tree) → after self.new rest ≡ after self.old (in_front part rest)) }
+        ensures { OnOk result ((rest : Tree) → in_front_of self.new rest ≡ in_front_of self.old (in_front part rest)) }
     {
         self.flush()?;
         self.parts.push(part)?;
@@ -54,7 +54,7 @@ impl Draft {
     }
 
     pub(crate) fn finish(mut self) -> Result<Parts, AllocError>
-        ensures { IfOk result (λ parts. parts ≡ after self End) }
+        ensures { IfOk result (λ parts. parts ≡ in_front_of self End) }
     {
         self.flush()?;
         Ok(Parts { items: self.parts })

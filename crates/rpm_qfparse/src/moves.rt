@@ -1,7 +1,7 @@
 //! What a format begins with at a place.
 
 ghost use Rattle.std.specs.Prelude.{◌≡◌, ℕ, ◌<◌, [], Bool, OnOk};
-ghost use Rattle.rpm_qfparse.specs.Prelude.{at_end, bare_move, bare_reading, bare_rest, close, condition, escape, escaped, MayOpen, move_of, percent, second_follows};
+ghost use Rattle.rpm_qfparse.specs.Prelude.{at_end, bare_move, bare_reading, bare_rest, close, condition, escape, escaped_move, MayOpen, move_of, percent, second_follows};
 
 use crate::fault::{Fault, FormatKind};
 use crate::tag::{begins, named, split_once, tag_part};
@@ -93,7 +93,7 @@ fn at_end(context: Context, text: &[u8]) -> Move<'_>
 
 /// What stands after a backslash.
 fn escaped(text: &[u8]) -> Move<'_>
-    ensures value { bare_move result ≡ escaped text.now }
+    ensures value { bare_move result ≡ escaped_move text.now }
     ensures room { (in_bracket : Bool) (depth : ℕ) → MayOpen in_bracket depth result }
 {
     match text {

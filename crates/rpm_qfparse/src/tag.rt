@@ -1,7 +1,7 @@
 //! A tag of a format, after its percent.
 
 ghost use Rattle.std.specs.Prelude.{◌≡◌, ◌==◌, ◌+◌, ◌≤◌, ◌<◌, length, true, nat_eq, IfSome};
-ghost use Rattle.rpm_qfparse.specs.Prelude.{bare_cut, bare_name, bare_part, bare_reading, bare_rows, begins, formatter, ForSome, name_and_show, named, option_map, pointwise, position, role, show_in, show_of, side, split_once, tag_inside, tag_part, width};
+ghost use Rattle.rpm_qfparse.specs.Prelude.{bare_cut, bare_name, bare_part, bare_reading, bare_rows, begins, formatter, ForSome, name_and_show, named_tag, option_map, pointwise, position, role, show_in, show_of, side, split_once, tag_inside, tag_part, width_in};
 
 use crate::fault::{Fault, FormatKind};
 use crate::tree::{Role, Show, TagPart};
@@ -69,7 +69,7 @@ fn side(text: &[u8]) -> (bool, &[u8])
 /// The number of the digits in front, and what follows them.
 #[tactic(auto, unfolding(crate::proofs::Widths::number_from, crate::proofs::Widths::after_digits))]
 fn width(text: &[u8]) -> Result<(u32, &[u8]), Fault<'_>>
-    ensures { bare_reading result ≡ width text.now }
+    ensures { bare_reading result ≡ width_in text.now }
 {
     let mut number = 0;
     let mut rest = text;
@@ -98,7 +98,7 @@ fn role(text: &[u8]) -> (Role, &[u8])
 
 /// The tag of a name that stands at a place.
 pub(crate) fn named<'a>(name: &[u8], place: &'a [u8]) -> Result<Tag, Fault<'a>>
-    ensures { bare_part result ≡ named name.now place.now }
+    ensures { bare_part result ≡ named_tag name.now place.now }
 {
     if name.is_empty() {
         return Err(Fault::new(FormatKind::EmptyTag, place));

@@ -1,7 +1,7 @@
 //! The tree of a format.
 
 ghost use Rattle.std.specs.Prelude.{◌≡◌, ◌<◌, length, slice_get, Some, false};
-ghost use Rattle.rpm_qfparse.specs.Prelude.{IsProper, load, parts_of, Tree, tree_code, weight};
+ghost use Rattle.rpm_qfparse.specs.Prelude.{IsProper, load, parts_of_tree, Tree, tree_code, weight};
 
 use rpm_tags::Tag;
 use std::alloc::Global;
@@ -101,7 +101,7 @@ pub enum Part {
     Condition(Tag, Parts, Parts),
 }
 
-/// Parts, one after the other. Contracts see them as a `Tree`, and by `parts_of` as a list.
+/// Parts, one after the other. Contracts see them as a `Tree`, and by `parts_of_tree` as a list.
 #[cycle(parts)]
 #[derive(Drop)]
 pub struct Parts {
@@ -123,7 +123,7 @@ impl Model for Parts {
 
     ghost size = { weight };
 
-    ghost use Rattle.rpm_qfparse.specs.inner.Falls.{tree_falls};
+    ghost use Rattle.rpm_qfparse.specs.laws.Falls.{tree_falls};
     ghost use Rattle.std.proofs.Common.{arith};
 
     ghost size_decreases = { λ a h. omega (arith, tree_falls a.items.items) };
@@ -142,15 +142,15 @@ impl Parts {
 
     /// How many parts there are, without those in them.
     pub fn len(&self) -> usize
-        ensures { result ≡ length (parts_of self.now) }
+        ensures { result ≡ length (parts_of_tree self.now) }
     {
         self.items.len()
     }
 
     /// The part at a place, from 0.
     pub fn at(&self, i: usize) -> &Part
-        requires { i < length (parts_of self.now) }
-        ensures value { slice_get (parts_of self.now) i ≡ Some result.now }
+        requires { i < length (parts_of_tree self.now) }
+        ensures value { slice_get (parts_of_tree self.now) i ≡ Some result.now }
         ensures lighter { load result.now < weight self.now }
     {
         &self.items[i]

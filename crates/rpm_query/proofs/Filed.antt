@@ -1,17 +1,17 @@
 -- What is said of package files.
 use Rattle.std.proofs.Common.{◌≡◌, ℕ, Bool, true, false, not, ◌||◌, List, [], Option, Some, None, Result, Err, refl, sym, ap, ◌∙◌, subst}
-use Rattle.rpm_query.proofs.Vocabulary.{Anywhere, file_part, FileFault, found_part, Headed, is_bad, is_of_words, is_out}
-use Rattle.rpm_query.proofs.Vocabulary.{IsFileFault, left, Outputs, package_header, PartIs, Paths, PartProgress, read_part, Step, Halt, Through, Tree}
+use Rattle.rpm_query.proofs.Vocabulary.{Anywhere, file_part, FileFault, found_part, HeaderAndRest, is_bad, is_of_words, is_out}
+use Rattle.rpm_query.proofs.Vocabulary.{IsFileFault, bytes_left, Outputs, package_header, PartIs, Paths, PartProgress, read_part, Step, Halt, Through, Tree}
 use Rattle.rpm_query.proofs.Vocabulary.{why_of_halt}
 use Rattle.rpm_effects.specs.Endings.{stop_in}
 use Rattle.rpm_file.specs.declared.fault.FileFault.TheVariants as file
 use Rattle.rpm_effects.specs.declared.tally.Halt.TheVariants as halt
-use Rattle.rpm_effects.specs.inner.Reaching.{not_begun}
+use Rattle.rpm_effects.specs.laws.Reaching.{not_begun}
 
 pub found_open : (tree : Tree) (j : ℕ) (path : List ℕ) (found rest : Option (List ℕ)) → rest ≡ found → (found ≡ None → ⊥)
-    → found_part tree j path found ≡ read_part tree j path (package_header (left rest))
+    → found_part tree j path found ≡ read_part tree j path (package_header (bytes_left rest))
 found_open tree j path None rest is some = absurd (some refl)
-found_open tree j path (Some bytes) rest is some = ap (λ (r : Option (List ℕ)). read_part tree j path (package_header (left r))) (sym is)
+found_open tree j path (Some bytes) rest is some = ap (λ (r : Option (List ℕ)). read_part tree j path (package_header (bytes_left r))) (sym is)
 
 -- where a read stops a command, nothing was written
 pub unread : (fault : FileFault) (h : Halt) (all : List Step) (old new : Outputs) → stop_in fault ≡ Some h → Through [] old new
@@ -32,7 +32,7 @@ read_stop file.ReadFault is = refl
 read_stop others is = absurd cc
 
 -- the others are the file's own
-pub own_fault : (found : Result Headed FileFault) (fault : FileFault) → stop_in fault ≡ None → IsFileFault found fault → found ≡ Err fault
+pub own_fault : (found : Result HeaderAndRest FileFault) (fault : FileFault) → stop_in fault ≡ None → IsFileFault found fault → found ≡ Err fault
 own_fault found file.ReadFault none is = absurd cc
 own_fault found file.NoMemory none is = absurd cc
 own_fault found others none is = is

@@ -1,32 +1,37 @@
 -- Calls that look packages up, one after the other.
 use Rattle.std.proofs.Common.{ℕ, ◌+◌, ◌-◌, ◌<◌, ◌≤◌, arith}
 use Rattle.rpm_outside.specs.declared.disk.Disk as disk
-use Rattle.rpm_query.proofs.Vocabulary.{cost_all, cost_some, cost_to, cost_up, Database, Looks, looks_at_from, looks_more}
+use Rattle.rpm_query.proofs.Vocabulary.{packages_cost, cost_some, packages_cost_to, cost_up, Database, OnlyReads, looks_at_from, looks_more}
 use Rattle.rpm_query.proofs.Vocabulary.{looks_then, Pkg, Reach, reach_all, reach_some, reach_to}
 
 module _ {D : Type 0} (d : disk.Ghosts D) (trans : (a b c : D) → d.follows a b → d.follows b c → d.follows a c) {a b c : D} where
   -- one look and then another
-  both_look : (first second most : ℕ) → first + second ≤ most → Looks d Pkg first a b → Looks d Pkg second b c → Looks d Pkg most a c
+  both_look : (first second most : ℕ) → first + second ≤ most → OnlyReads d Pkg first a b → OnlyReads d Pkg second b c → OnlyReads d Pkg most a c
   both_look first second most le =
       looks_then d Pkg trans first second most a b c le
 
   -- the numbers up to n above another, and then the next ones
-  module _ (db : Database) {low n : ℕ} (le : low ≤ n) (first : Looks d Pkg (cost_to n db - cost_to low db) a b) where
-    pub looks_next : {m : ℕ} → n < m → Looks d Pkg (cost_to m db - cost_to n db) b c → Looks d Pkg (cost_to m db - cost_to low db) a c
-    looks_next {m = m} lt = both_look (cost_to n db - cost_to low db) (cost_to m db - cost_to n db) (cost_to m db - cost_to low db)
+  module _ (db : Database) {low n : ℕ} (le : low ≤ n) (first : OnlyReads d Pkg (packages_cost_to n db - packages_cost_to low db) a b) where
+    pub looks_next : {m : ℕ} → n < m → OnlyReads d Pkg (packages_cost_to m db - packages_cost_to n db) b c
+        → OnlyReads d Pkg (packages_cost_to m db - packages_cost_to low db) a c
+    looks_next {m = m} lt = both_look (packages_cost_to n db - packages_cost_to low db) (packages_cost_to m db - packages_cost_to n db)
+        (packages_cost_to m db - packages_cost_to low db)
         (omega (arith, cost_up db low n le, cost_up db n m (omega (arith, lt)))) first
 
-    pub looks_within : {m : ℕ} → n < m → Looks d Pkg (cost_to m db - cost_to n db) b c → Looks d Pkg (cost_all db - cost_to low db) a c
-    looks_within {m = m} lt = both_look (cost_to n db - cost_to low db) (cost_to m db - cost_to n db) (cost_all db - cost_to low db)
+    pub looks_within : {m : ℕ} → n < m → OnlyReads d Pkg (packages_cost_to m db - packages_cost_to n db) b c
+        → OnlyReads d Pkg (packages_cost db - packages_cost_to low db) a c
+    looks_within {m = m} lt = both_look (packages_cost_to n db - packages_cost_to low db) (packages_cost_to m db - packages_cost_to n db)
+        (packages_cost db - packages_cost_to low db)
         (omega (arith, cost_up db low n le, cost_up db n m (omega (arith, lt)), cost_some db m)) first
 
-    pub looks_rest : Looks d Pkg (cost_all db - cost_to n db) b c → Looks d Pkg (cost_all db - cost_to low db) a c
-    looks_rest = both_look (cost_to n db - cost_to low db) (cost_all db - cost_to n db) (cost_all db - cost_to low db)
+    pub looks_rest : OnlyReads d Pkg (packages_cost db - packages_cost_to n db) b c → OnlyReads d Pkg (packages_cost db - packages_cost_to low db) a c
+    looks_rest =
+        both_look (packages_cost_to n db - packages_cost_to low db) (packages_cost db - packages_cost_to n db) (packages_cost db - packages_cost_to low db)
         (omega (arith, cost_up db low n le, cost_some db n)) first
 
 -- a look that reads so many bytes is within them, whatever else bounds it
-pub look_within : {D : Type 0} (d : disk.Ghosts D) {a b : D} {some most : ℕ} → d.bytes_read b Pkg ≤ d.bytes_read a Pkg + most → Looks d Pkg some a b
-    → Looks d Pkg most a b
+pub look_within : {D : Type 0} (d : disk.Ghosts D) {a b : D} {some most : ℕ} → d.bytes_read b Pkg ≤ d.bytes_read a Pkg + most → OnlyReads d Pkg some a b
+    → OnlyReads d Pkg most a b
 look_within d {a = a} {b = b} {some = some} {most = most} le looks =
     looks_more d Pkg (d.bytes_read b Pkg - d.bytes_read a Pkg) most a b (omega (arith, le)) (looks_at_from d Pkg some a b looks)
 

@@ -3,9 +3,9 @@ use Rattle.std.proofs.Common.{◌≡◌, ℕ, ◌||◌, Bool, true, false, not, 
 use Rattle.rpm_query.proofs.Vocabulary.{above, Bearer, bearer_of, Files, Halt, is_bad, is_some_of, IsOfRead, list_any, NextNumberIs, outputs, Package, packages}
 use Rattle.rpm_query.proofs.Vocabulary.{packages_part, PartIs, PickFault, picks, Reach, PartProgress, Recalls, Recent, Selection, Serves, Step, StepIs, Store}
 use Rattle.rpm_effects.specs.declared.tally.Halt.TheVariants as halt
-use Rattle.rpm_print.specs.inner.Printed.{fails_more, some_more, none_more}
-use Rattle.rpm_effects.specs.inner.Reaching.{Goes, goes_start, goes_more, goes_stop, goes_end}
-use Rattle.rpm_effects.specs.inner.Stopping.{reached_first}
+use Rattle.rpm_print.specs.laws.Printed.{fails_more, some_more, none_more}
+use Rattle.rpm_effects.specs.laws.Reaching.{StepsSoFar, goes_start, goes_more, goes_stop, goes_end}
+use Rattle.rpm_effects.specs.laws.Stopping.{reached_first}
 
 module _ (sel : Selection) (s : Store) (n : ℕ) (p : Reach) {f f' : Files} (files : f ≡ f') where
   -- what is next of the files as they read is next of the files as they were
@@ -34,11 +34,11 @@ held_still s files recent = subst (λ (g : Files). Recalls (packages g.pkg s) re
 
 -- those up to a number were printed: the steps so far, whether there were some, and whether the argument fails for them
 pub record PrintedTo (step : ℕ → ℕ × Package → Step) (es : List (ℕ × Package)) (after n : ℕ) (some fails ot et : Bool) (o e o' e' : List ℕ) : Type 0 where
-  pub goes : (j : ℕ) → Goes ot et (map (step j) (above after es)) (map (step j) (above n es)) o e o' e'
+  pub goes : (j : ℕ) → StepsSoFar ot et (map (step j) (above after es)) (map (step j) (above n es)) o e o' e'
   pub bad : (j : ℕ) → list_any is_bad (map (step j) (above after es)) ≡ (fails || list_any is_bad (map (step j) (above n es)))
   pub there : is_some_of (above after es) ≡ (some || is_some_of (above n es))
 
-goes_halts : {ot et : Bool} {all left : List Step} {o e o' e' : List ℕ} → Goes ot et all left o e o' e' → (what : Halt) (reads_to : Bearer → Type 0)
+goes_halts : {ot et : Bool} {all left : List Step} {o e o' e' : List ℕ} → StepsSoFar ot et all left o e o' e' → (what : Halt) (reads_to : Bearer → Type 0)
     → IsOfRead what → PartProgress {T = Bool} all (Err what) (outputs ot o et e) (outputs ot o' et e') reads_to
 goes_halts {left = left} g halt.DiskFault reads_to is = record { done = g.done; rest = left; all_is = g.parts; through = g.went }
 goes_halts {left = left} g halt.NoMemory reads_to is = record { done = g.done; rest = left; all_is = g.parts; through = g.went }

@@ -1,8 +1,8 @@
 -- A question picks by its text, wherever the text lies.
 use Rattle.std.proofs.Common.{◌≡◌, ℕ, Bool, true, false, List, [], ◌∷◌, map, Bor, Option, Result, Ok, Err, refl, ap, ◌∙◌}
-use Rattle.rpm_query.proofs.Vocabulary.{argument_reach, Bad, candidates, Chosen, filter, Good, has_key, has_key_in, Header, header, HeaderFault, is_candidate}
-use Rattle.rpm_query.proofs.Vocabulary.{is_picked, IsFaultOf, IsOfChain, keys_asked, Kind, lent, list_any, nat_cmp, Package, picked, picked_by, picks}
-use Rattle.rpm_query.proofs.Vocabulary.{question_of, reach, reach_of, Selection, Halt, takes_bad, takes_header, takes_read, These, unasked, Units}
+use Rattle.rpm_query.proofs.Vocabulary.{argument_reach, Bad, candidates, Chosen, filter, Good, has_header_key, has_key_in, Header, header, HeaderFault, is_candidate}
+use Rattle.rpm_query.proofs.Vocabulary.{is_picked, IsFaultOfChain, IsOfChain, keys_asked, Kind, lent, list_any, nat_cmp, Package, picked_packages, picked_by, picks}
+use Rattle.rpm_query.proofs.Vocabulary.{question_of, reach, reach_of_question, Selection, Halt, takes_bad, takes_header, takes_read, These, unindexed_reach, Units}
 use Rattle.std.specs.Prelude.{IfErr}
 use Rattle.std.specs.FinMap as finite
 use Rattle.rpm_words.specs.declared.switch.Chosen.TheVariants as by
@@ -27,8 +27,9 @@ module _ (s t : Selection) (header_same : (n : ℕ) (h : Header) → takes_heade
   unfolding picks
   picks_same map = filter_same (is_picked s) (is_picked t) picked_alike (finite.entries map)
 
-picked_same : (map : finite.FinMap nat_cmp Package) (chosen : Chosen) (x : Bor (List ℕ)) → picked map chosen x.now ≡ picked_by map (question_of chosen x)
-unfolding picked takes_header
+picked_same : (map : finite.FinMap nat_cmp Package) (chosen : Chosen) (x : Bor (List ℕ))
+    → picked_packages map chosen x.now ≡ picked_by map (question_of chosen x)
+unfolding picked_packages takes_header
 picked_same map by.Label x = picks_same (question.Label (lent x.now)) (question.Label x) (λ n h. refl) (λ n. refl) map
 picked_same map by.All x = picks_same (question.Pattern (lent x.now)) (question.Pattern x) (λ n h. refl) (λ n. refl) map
 picked_same map by.Path x = picks_same (question.Path (lent x.now)) (question.Path x) (λ n h. refl) (λ n. refl) map
@@ -44,7 +45,7 @@ numbers_of es = map (λ e. e.0) es
 
 module _ (s t : Selection) (keys : keys_asked s ≡ keys_asked t) where
   key_same : (r : Result Header HeaderFault) → has_key_in s r ≡ has_key_in t r
-  key_same (Ok h) = ap (λ (ks : List (Kind × List ℕ)). list_any (has_key h) ks) keys
+  key_same (Ok h) = ap (λ (ks : List (Kind × List ℕ)). list_any (has_header_key h) ks) keys
   key_same (Err fault) = refl
 
   candidate_alike : (e : ℕ × Package) → is_candidate s e ≡ is_candidate t e
@@ -55,12 +56,12 @@ module _ (s t : Selection) (keys : keys_asked s ≡ keys_asked t) where
   unfolding candidates
   candidates_same map = filter_same (is_candidate s) (is_candidate t) candidate_alike (finite.entries map)
 
-  reach_alike : unasked s ≡ unasked t → (asked : Bool) (map : finite.FinMap nat_cmp Package) → reach asked s map ≡ reach asked t map
+  reach_alike : unindexed_reach s ≡ unindexed_reach t → (asked : Bool) (map : finite.FinMap nat_cmp Package) → reach asked s map ≡ reach asked t map
   reach_alike same true map = ap (λ (es : List (ℕ × Package)). These (numbers_of es)) (candidates_same map)
   reach_alike same false map = same
 
 reach_same : (indexed : Bool) (map : finite.FinMap nat_cmp Package) (chosen : Chosen) (x : Bor (List ℕ))
-    → argument_reach indexed map chosen x.now ≡ reach_of indexed map (question_of chosen x)
+    → argument_reach indexed map chosen x.now ≡ reach_of_question indexed map (question_of chosen x)
 unfolding argument_reach keys_asked
 reach_same indexed map by.Label x = reach_alike (question.Label (lent x.now)) (question.Label x) refl refl indexed map
 reach_same indexed map by.Path x = reach_alike (question.Path (lent x.now)) (question.Path x) refl refl indexed map
@@ -69,8 +70,8 @@ reach_same indexed map by.Trigger x = reach_alike (question.Trigger (lent x.now)
 reach_same indexed map by.Directory x = reach_alike (question.Directory (lent x.now)) (question.Directory x) refl refl indexed map
 reach_same indexed map others x = refl
 
-pub fault_same : (chosen : Chosen) (x : Bor (List ℕ)) (idx : Units) (unit : ℕ) → IsFaultOf (question_of chosen x) idx unit
-    → IsFaultOf (question_of chosen (lent x.now)) idx unit
+pub fault_same : (chosen : Chosen) (x : Bor (List ℕ)) (idx : Units) (unit : ℕ) → IsFaultOfChain (question_of chosen x) idx unit
+    → IsFaultOfChain (question_of chosen (lent x.now)) idx unit
 unfolding keys_asked
 fault_same by.Label x idx unit is = is
 fault_same others x idx unit is = is
@@ -83,8 +84,8 @@ chain_same chosen x idx (Err others) is = tt
 
 -- by the question that it is
 module _ (map : finite.FinMap nat_cmp Package) (chosen : Chosen) (x : Bor (List ℕ)) {asked : Option Selection} (is : question_of chosen x ≡ asked) where
-  pub picked_is : picked map chosen x.now ≡ picked_by map asked
+  pub picked_is : picked_packages map chosen x.now ≡ picked_by map asked
   picked_is = picked_same map chosen x ∙ ap (picked_by map) is
 
-  pub reach_is : (indexed : Bool) → argument_reach indexed map chosen x.now ≡ reach_of indexed map asked
-  reach_is indexed = reach_same indexed map chosen x ∙ ap (reach_of indexed map) is
+  pub reach_is : (indexed : Bool) → argument_reach indexed map chosen x.now ≡ reach_of_question indexed map asked
+  reach_is indexed = reach_same indexed map chosen x ∙ ap (reach_of_question indexed map) is

@@ -1,16 +1,16 @@
 -- The arguments of a command, one after the other.
 use Rattle.rpm_query.proofs.Vocabulary.{argument_part, argument_reach, Bearer, Chosen, Course, Database, Files, Halt, HasIndexRows, is_indexed, Outputs}
-use Rattle.rpm_query.proofs.Vocabulary.{outputs, packages, PartIs, Portion, Reach, reach_all, reach_before, reach_sum, reached_by, ReadsOf, room, Through, Tree}
+use Rattle.rpm_query.proofs.Vocabulary.{outputs, packages, PartIs, Portion, Reach, reach_all, reach_before, reach_sum, reached_by, ReadsOf, store_of, Through, Tree}
 use Rattle.rpm_query.proofs.Vocabulary.{CommandProgress, why_of_halt}
 use Rattle.std.proofs.Common.{◌≡◌, ℕ, ◌+◌, ◌<◌, ◌≤◌, ◌≢◌, Bool, true, false, if◌then◌else◌, List, [], ◌++◌, map, drop, length, Result, Ok, Err, Some, refl, ap}
 use Rattle.std.proofs.Common.{◌∙◌, subst, arith}
 use Rattle.std.specs.Prelude.{slice_get}
-use Rattle.rpm_effects.specs.Portions.{before, parts_in_turn}
-use Rattle.rpm_effects.specs.inner.Parts.{drop_get, none_left, went_stop}
-use Rattle.rpm_print.specs.inner.Reached.{rows_at}
-use Rattle.rpm_effects.specs.inner.Reaching.{Goes, goes_start, goes_more, goes_stop, goes_end}
-use Rattle.rpm_effects.specs.inner.Stopping.{reached_reads}
-use Rattle.rpm_query.specs.inner.Sums.{reads_by, before_next, before_some, get_map}
+use Rattle.rpm_effects.specs.Portions.{before_others, parts_in_turn}
+use Rattle.rpm_effects.specs.laws.Parts.{drop_get, none_left, went_stop}
+use Rattle.rpm_print.specs.laws.Reached.{rows_at}
+use Rattle.rpm_effects.specs.laws.Reaching.{StepsSoFar, goes_start, goes_more, goes_stop, goes_end}
+use Rattle.rpm_effects.specs.laws.Stopping.{reached_reads}
+use Rattle.rpm_query.specs.laws.Sums.{reads_by, before_next, before_some, get_map}
 
 -- ---- what is done for them
 
@@ -23,7 +23,7 @@ few_more false failed k le = omega (arith, le)
 
 -- those before a place were gone through, and so many of them failed
 pub record Turned (ot et : Bool) (each : ℕ → List ℕ → Portion) (f : ℕ → List ℕ) (args : List ℕ) (k failed : ℕ) (o e o' e' : List ℕ) : Type 0 where
-  pub goes : Goes ot et (parts_in_turn each 0 (map f args)).steps (parts_in_turn each k (map f (drop k args))).steps o e o' e'
+  pub goes : StepsSoFar ot et (parts_in_turn each 0 (map f args)).steps (parts_in_turn each k (map f (drop k args))).steps o e o' e'
   pub count : (parts_in_turn each 0 (map f args)).failed ≡ failed + (parts_in_turn each k (map f (drop k args))).failed
 
 pub turned_none : {ot et : Bool} {each : ℕ → List ℕ → Portion} {f : ℕ → List ℕ} {args o e : List ℕ} → Turned ot et each f args 0 0 o e o e
@@ -38,7 +38,7 @@ module _ {each : ℕ → List ℕ → Portion} {f : ℕ → List ℕ} {args : Li
     abbrev rest : Course
     rest = parts_in_turn each (k + 1) (map f (drop (k + 1) args))
 
-    split : parts_in_turn each k (map f (drop k args)) ≡ before (each k (f word)) rest
+    split : parts_in_turn each k (map f (drop k args)) ≡ before_others (each k (f word)) rest
     split = ap (λ (ws : List ℕ). parts_in_turn each k (map f ws)) (drop_get args k word here)
 
     turn_steps : (parts_in_turn each k (map f (drop k args))).steps ≡ (each k (f word)).steps ++ rest.steps
@@ -91,14 +91,15 @@ module _ {each : ℕ → List ℕ → Portion} {f : ℕ → List ℕ} {args : Li
 -- what is said of the files as they read is said of the files as they were
 module _ (chosen : Chosen) (text : List ℕ) (db : Database) (between now : ℕ) {f f' : Files} (same : f ≡ f') where
   abbrev over : Files → Reach
-  over g = argument_reach (is_indexed db) (packages g.pkg (room db)) chosen text
+  over g = argument_reach (is_indexed db) (packages g.pkg (store_of db)) chosen text
 
   pub part_here : (tree : Tree) (after k : ℕ) {r : Result Bool Halt} {old new : Outputs}
-      → (HasIndexRows db f.pkg f.idx → PartIs (argument_part tree (packages f.pkg (room db)) chosen after k text) r old new (ReadsOf k (over f) db between now))
+      → (HasIndexRows db f.pkg f.idx → PartIs (argument_part tree (packages f.pkg (store_of db)) chosen after k text) r old new
+      (ReadsOf k (over f) db between now))
       → HasIndexRows db f'.pkg f'.idx
-      → PartIs (argument_part tree (packages f'.pkg (room db)) chosen after k text) r old new (ReadsOf k (over f') db between now)
+      → PartIs (argument_part tree (packages f'.pkg (store_of db)) chosen after k text) r old new (ReadsOf k (over f') db between now)
   part_here tree after k {r = r} {old = old} {new = new} part rows =
-      subst (λ (g : Files). PartIs (argument_part tree (packages g.pkg (room db)) chosen after k text) r old new (ReadsOf k (over g) db between now)) same
+      subst (λ (g : Files). PartIs (argument_part tree (packages g.pkg (store_of db)) chosen after k text) r old new (ReadsOf k (over g) db between now)) same
       (part (rows_at db f f' same rows))
 
   pub reads_here : (HasIndexRows db f.pkg f.idx → now ≤ between + reach_all (over f) db) → HasIndexRows db f'.pkg f'.idx

@@ -1,48 +1,50 @@
 -- The words of proofs, from one place.
 pub use Rattle.rpm_effects.specs.Progress.{outputs, Outputs, Through, Anywhere}
-pub use Rattle.rpm_effects.specs.Steps.{Bearer, bearer, Course, idle, is_out, Step, whole, bearer_of}
+pub use Rattle.rpm_effects.specs.Steps.{Bearer, bearer, Course, idle, is_out, Step, whole_step, bearer_of}
 pub use Rattle.rpm_effects.specs.declared.tally.Halt.{Halt}
-pub use Rattle.rpm_db.specs.Database.{cost_all, cost_to, Database, is_indexed}
-pub use Rattle.rpm_db.specs.Frame.{room}
-pub use Rattle.rpm_db.specs.FromOne.{from_one}
-pub use Rattle.rpm_db.specs.PackageLaws.{cost_some, cost_up}
+pub use Rattle.rpm_db.specs.Database.{packages_cost, packages_cost_to, Database, is_indexed}
+pub use Rattle.rpm_db.specs.Database.{store_of}
+pub use Rattle.rpm_db.specs.laws.FromOne.{from_one}
+pub use Rattle.rpm_db.specs.laws.PackageLaws.{cost_some, cost_up}
 pub use Rattle.rpm_db.specs.State.{above, Bad, Good, Package}
 unfoldable pub use Rattle.rpm_db.specs.State.{packages}
 pub use Rattle.rpm_file.specs.Answers.{IsFileFault}
-pub use Rattle.rpm_file.specs.Package.{Headed, package_header}
+pub use Rattle.rpm_file.specs.Package.{HeaderAndRest, package_header}
 pub use Rattle.rpm_file.specs.declared.fault.FileFault.{FileFault}
 pub use Rattle.rpm_header.specs.Header.{Header}
 unfoldable pub use Rattle.rpm_header.specs.Header.{header}
 pub use Rattle.rpm_header.specs.declared.form.HeaderFault.{HeaderFault}
-pub use Rattle.rpm_outside.specs.Browses.{left}
+pub use Rattle.rpm_outside.specs.Browses.{bytes_left}
 pub use Rattle.rpm_outside.specs.Buffered.{inner}
 pub use Rattle.rpm_outside.specs.Files.{Files, Units}
 pub use Rattle.rpm_outside.specs.Shelves.{bytes_at, Paths}
 pub use Rattle.rpm_outside.specs.declared.disk.File.TheVariants.{Idx, Pkg}
-pub use Rattle.rpm_outside.specs.inner.Looking.{looks_at_from, looks_more, looks_then}
+pub use Rattle.rpm_outside.specs.laws.Looking.{looks_at_from, looks_more, looks_then}
 pub use Rattle.rpm_pkgdb.specs.Store.{Store}
 pub use Rattle.rpm_effects.specs.Answers.{PartIs, PartProgress, StepIs, CommandProgress}
 pub use Rattle.rpm_print.specs.Answers.{is_some_of}
 pub use Rattle.rpm_effects.specs.Endings.{why_of_halt}
 pub use Rattle.rpm_effects.specs.Classes.{is_of_words, IsOfRead}
-pub use Rattle.rpm_print.specs.Frame.{Looks, packages_in, Peeks, pkg_read}
-pub use Rattle.rpm_effects.specs.Shown.{shown}
-pub use Rattle.rpm_print.specs.Printed.{packages_part, printed, step_by}
+pub use Rattle.rpm_outside.specs.Frame.{OnlyReads}
+pub use Rattle.rpm_db.specs.Frame.{packages_in}
+pub use Rattle.rpm_print.specs.Frame.{OnlyReadsIndexed, pkg_read}
+pub use Rattle.rpm_effects.specs.Shown.{shown_outputs}
+pub use Rattle.rpm_print.specs.Printed.{packages_part, printed_step, step_by}
 pub use Rattle.rpm_print.specs.Reads.{reach_before, reach_sum, reached_by, ReadsIn, ReadsOf}
-pub use Rattle.rpm_effects.specs.Portions.{before, is_bad, Portion}
+pub use Rattle.rpm_effects.specs.Portions.{before_others, is_bad, Portion}
 pub use Rattle.rpm_effects.specs.declared.answer.Why.{Why}
 pub use Rattle.rpm_qfeval.specs.Meaning.{meaning}
 pub use Rattle.rpm_qfparse.specs.Tree.{Tree}
 pub use Rattle.rpm_query.specs.PackageFiles.{file_part, found_part, read_part}
-pub use Rattle.rpm_query.specs.Queries.{answered, argument_part, lent, picked_by, question_of}
-unfoldable pub use Rattle.rpm_query.specs.Queries.{missing_part, picked}
-pub use Rattle.rpm_query.specs.Reach.{IsFaultOf, IsOfChain, reach_of}
+pub use Rattle.rpm_query.specs.Queries.{answered_part, argument_part, lent, picked_by, question_of}
+unfoldable pub use Rattle.rpm_query.specs.Queries.{missing_part, picked_packages}
+pub use Rattle.rpm_query.specs.Reach.{IsFaultOfChain, IsOfChain, reach_of_question}
 unfoldable pub use Rattle.rpm_query.specs.Reach.{argument_reach}
 pub use Rattle.rpm_query.specs.declared.printing.PrintedPackages.{PrintedPackages}
-pub use Rattle.rpm_select.specs.Candidates.{has_key, has_key_in, is_candidate}
+pub use Rattle.rpm_select.specs.Candidates.{has_header_key, has_key_in, is_candidate}
 unfoldable pub use Rattle.rpm_select.specs.Candidates.{candidates, keys_asked}
 pub use Rattle.rpm_select.specs.Picks.{entry_in, NextIs, NextNumberIs, number_in}
-pub use Rattle.rpm_select.specs.Reach.{Everything, HasIndexRows, reach, Reach, reach_all, reach_to, Serves, These, unasked}
+pub use Rattle.rpm_select.specs.Reach.{Everything, HasIndexRows, reach, Reach, reach_all, reach_to, Serves, These, unindexed_reach}
 pub use Rattle.rpm_select.specs.Recents.{Recalls}
 pub use Rattle.rpm_select.specs.Selections.{is_picked, takes_bad, takes_read}
 unfoldable pub use Rattle.rpm_select.specs.Selections.{picks, takes_header}
@@ -50,11 +52,11 @@ pub use Rattle.rpm_select.specs.declared.picked.PickFault.{PickFault}
 pub use Rattle.rpm_select.specs.declared.picked.Picked.{Picked}
 pub use Rattle.rpm_select.specs.declared.recent.Recent.{Recent}
 pub use Rattle.rpm_select.specs.declared.selection.Selection.{Selection}
-pub use Rattle.rpm_select.specs.inner.Costing.{reach_some}
-pub use Rattle.rpm_select.specs.inner.Rising.{next_picked, picks_from_one}
-pub use Rattle.rpm_select.specs.inner.Unindexed.{not_asked}
+pub use Rattle.rpm_select.specs.laws.Costing.{reach_some}
+pub use Rattle.rpm_select.specs.laws.Rising.{next_picked, picks_from_one}
+pub use Rattle.rpm_select.specs.laws.Unindexed.{not_asked}
 pub use Rattle.rpm_tags.specs.declared.kind.Kind.{Kind}
-pub use Rattle.rpm_words.specs.Words.{text_at}
+pub use Rattle.rpm_words.specs.Words.{word_at}
 pub use Rattle.rpm_words.specs.declared.switch.Chosen.{Chosen}
 pub use Rattle.std.specs.List.{filter, list_any}
 pub use Rattle.std.specs.Ordering.{nat_cmp}

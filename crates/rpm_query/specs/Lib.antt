@@ -1,5 +1,5 @@
 pub mod PackageFiles
+pub mod Prelude
 pub mod Queries
 pub mod Reach
-pub mod inner
-pub mod Prelude
+pub mod laws

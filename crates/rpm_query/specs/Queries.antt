@@ -1,6 +1,7 @@
--- What a query does: what is printed of each package that it picks. On it rest the courses under `plain` and `keyed` of the page (`rpm_tool`, Theorem.antt),
--- and its laws `numbers` and `questions`.
-use Rattle.std.specs.Prelude.{◌≡◌, ℕ, List, [], ◌∷◌, map, codes, Bool, true, Option, Some, None, is_some, Result, Ok, Err}
+-- What a query does: what is printed of each package that it picks. On it rest the courses under `plain` and `keyed` of
+-- the page (`rpm_tool`, Theorem.antt), and its laws `numbers` and `questions`.
+use Rattle.std.specs.Prelude.{◌≡◌, ℕ, List, [], ◌∷◌, map, codes, Bool, true, Option, Some, None, is_some, Result, Ok}
+use Rattle.std.specs.Prelude.{Err}
 use Rattle.std.specs.Borrow.{Bor}
 use Rattle.std.specs.Option.{option_map}
 use Rattle.std.specs.List.{concat, AllByRecursion}
@@ -11,16 +12,17 @@ use Rattle.rpm_version.specs.Capability.{CapabilityParts, capability}
 use Rattle.rpm_words.specs.declared.switch.Chosen.{Chosen}
 use Rattle.rpm_words.specs.declared.switch.Chosen.TheVariants as by
 use Rattle.rpm_words.specs.Number.{number}
-use Rattle.rpm_words.specs.Words.{text_at}
+use Rattle.rpm_words.specs.Words.{word_at}
 use Rattle.rpm_words.specs.Ask.{AskParts}
 use Rattle.rpm_qfparse.specs.Tree.{Tree}
 use Rattle.rpm_db.specs.State.{Package, above, packages}
 use Rattle.rpm_select.specs.declared.selection.Selection.{Selection}
 use Rattle.rpm_select.specs.declared.selection.Selection.TheVariants as question
 use Rattle.rpm_select.specs.Selections.{picks}
-use Rattle.rpm_effects.specs.Steps.{whole, Step, ToOut, ToErr, Course, idle}
-use Rattle.rpm_effects.specs.Portions.{Portion, nothing, fails, before, parts_in_turn, numbers, RisesFrom}
-use Rattle.rpm_print.specs.Printed.{packages_part, step_of, exported}
+use Rattle.rpm_effects.specs.Steps.{whole_step, Step, ToOut, ToErr, Course, idle}
+use Rattle.rpm_effects.specs.Portions.{Portion, nothing, fails, before_others, parts_in_turn, numbers_of_steps}
+use Rattle.rpm_effects.specs.Portions.{RisesFrom}
+use Rattle.rpm_print.specs.Printed.{packages_part, step_of, exported_step}
 use Rattle.rpm_select.specs.declared.picked.PickFault.{PickFault}
 use Rattle.rpm_select.specs.declared.picked.PickFault.TheVariants as pick
 use Rattle.rpm_effects.specs.declared.tally.Halt.{Halt}
@@ -61,7 +63,7 @@ is_question chosen text = is_some (question_of chosen (lent text))
 
 -- each argument is one
 abbrev pub AreQuestions : List (List ℕ) → AskParts → Type 0
-AreQuestions words a = AllByRecursion (λ w. is_question a.chosen (text_at words w) ≡ true) a.arguments
+AreQuestions words a = AllByRecursion (λ w. is_question a.chosen (word_at words w) ≡ true) a.arguments
 
 -- the packages that a selection picks, none where there is no selection
 abbrev pub picked_by : FinMap nat_cmp Package → Option Selection → List (ℕ × Package)
@@ -69,42 +71,44 @@ picked_by packages None = []
 picked_by packages (Some sel) = picks packages sel
 
 -- the packages that an argument picks, by rising number
-unfoldable pub picked : FinMap nat_cmp Package → Chosen → List ℕ → List (ℕ × Package)
-picked packages chosen text = picked_by packages (question_of chosen (lent text))
+unfoldable pub picked_packages : FinMap nat_cmp Package → Chosen → List ℕ → List (ℕ × Package)
+picked_packages packages chosen text = picked_by packages (question_of chosen (lent text))
 
 -- an argument that picks nothing, as a line on standard output
-abbrev pub missing : ℕ → List ℕ → List ℕ → List ℕ → Portion
-missing j front text back = fails (ToOut (whole j) (concat (front ∷ text ∷ back ∷ [])))
+abbrev pub missing_line_part : ℕ → List ℕ → List ℕ → List ℕ → Portion
+missing_line_part j front text back = fails (ToOut (whole_step j) (concat (front ∷ text ∷ back ∷ [])))
 
 -- a record that isn't there, as a line on standard error
 abbrev pub missing_record : ℕ → List ℕ → Portion
-missing_record j text = fails (ToErr (whole j) (concat (codes "error: record " ∷ text ∷ codes " could not be read\n" ∷ [])))
+missing_record j text =
+    fails (ToErr (whole_step j) (concat (codes "error: record " ∷ text ∷ codes " could not be read\n" ∷ [])))
 
 -- the line of an argument that picks nothing, whatever was passed over; all packages and patterns have none
 unfoldable pub missing_part : Chosen → ℕ → List ℕ → Portion
-missing_part by.Label j x = missing j (codes "package ") x (codes " is not installed\n")
+missing_part by.Label j x = missing_line_part j (codes "package ") x (codes " is not installed\n")
 missing_part by.All j x = nothing
-missing_part by.Path j x = missing j (codes "file ") x (codes " is not owned by any package\n")
-missing_part by.Group j x = missing j (codes "group ") x (codes " does not contain any packages\n")
+missing_part by.Path j x = missing_line_part j (codes "file ") x (codes " is not owned by any package\n")
+missing_part by.Group j x = missing_line_part j (codes "group ") x (codes " does not contain any packages\n")
 missing_part by.Package j x = nothing
-missing_part by.Provides j x = missing j (codes "no package provides ") x (codes "\n")
-missing_part by.Requires j x = missing j (codes "no package requires ") x (codes "\n")
-missing_part by.Conflicts j x = missing j (codes "no package conflicts ") x (codes "\n")
-missing_part by.Obsoletes j x = missing j (codes "no package obsoletes ") x (codes "\n")
-missing_part by.Trigger j x = missing j (codes "no package triggers ") x (codes "\n")
+missing_part by.Provides j x = missing_line_part j (codes "no package provides ") x (codes "\n")
+missing_part by.Requires j x = missing_line_part j (codes "no package requires ") x (codes "\n")
+missing_part by.Conflicts j x = missing_line_part j (codes "no package conflicts ") x (codes "\n")
+missing_part by.Obsoletes j x = missing_line_part j (codes "no package obsoletes ") x (codes "\n")
+missing_part by.Trigger j x = missing_line_part j (codes "no package triggers ") x (codes "\n")
 missing_part by.Number j x = missing_record j x
-missing_part by.Directory j x = missing j (codes "no package has files in ") x (codes "\n")
-missing_part by.Tid j x = missing j (codes "no package has transaction ") x (codes "\n")
-missing_part by.Recommends j x = missing j (codes "no package recommends ") x (codes "\n")
+missing_part by.Directory j x = missing_line_part j (codes "no package has files in ") x (codes "\n")
+missing_part by.Tid j x = missing_line_part j (codes "no package has transaction ") x (codes "\n")
+missing_part by.Recommends j x = missing_line_part j (codes "no package recommends ") x (codes "\n")
 
 -- given what it picks
-abbrev pub answered : Tree → Chosen → ℕ → ℕ → List ℕ → List (ℕ × Package) → Portion
-answered tree chosen after j text [] = missing_part chosen j text
-answered tree chosen after j text (e ∷ es) = packages_part (step_of tree j) after (e ∷ es)
+abbrev pub answered_part : Tree → Chosen → ℕ → ℕ → List ℕ → List (ℕ × Package) → Portion
+answered_part tree chosen after j text [] = missing_part chosen j text
+answered_part tree chosen after j text (e ∷ es) = packages_part (step_of tree j) after (e ∷ es)
 
 -- what is printed for one argument of a question
 abbrev pub argument_part : Tree → FinMap nat_cmp Package → Chosen → ℕ → ℕ → List ℕ → Portion
-argument_part tree packages chosen after j text = answered tree chosen after j text (picked packages chosen text)
+argument_part tree packages chosen after j text =
+    answered_part tree chosen after j text (picked_packages packages chosen text)
 
 -- whether the argument fails, of what was printed of its packages
 abbrev pub fails_in : Result PrintedPackages Halt → Result Bool Halt
@@ -121,20 +125,22 @@ halt_of_pick pick.NoMemory = halt.NoMemory
 
 -- a query without arguments is of all packages, and counts as one
 abbrev pub query_of : Tree → FinMap nat_cmp Package → Chosen → ℕ → List (List ℕ) → Course
-query_of tree packages chosen after [] = before (packages_part (step_of tree 0) after (picks packages question.All)) idle
+query_of tree packages chosen after [] =
+    before_others (packages_part (step_of tree 0) after (picks packages question.All)) idle
 query_of tree packages chosen after (x ∷ xs) = parts_in_turn (argument_part tree packages chosen after) 0 (x ∷ xs)
 
 -- a query has this course by its words
 abbrev pub query : Tree → FinMap nat_cmp Package → List (List ℕ) → AskParts → Course
-query tree packages words a = query_of tree packages a.chosen a.after (map (text_at words) a.arguments)
+query tree packages words a = query_of tree packages a.chosen a.after (map (word_at words) a.arguments)
 
 -- an export: all packages, by rising number
 abbrev pub export : FinMap nat_cmp Package → Course
-export packages = before (packages_part (exported 0) 0 (picks packages question.All)) idle
+export packages = before_others (packages_part (exported_step 0) 0 (picks packages question.All)) idle
 
 -- ---- whom steps are for
 
 -- a list of steps bears the numbers of these packages above a number, each once and rising
 abbrev pub AreOfEach : ℕ → List (ℕ × Package) → List Step → Type 0
 AreOfEach after packages steps =
-    (numbers steps ≡ map (λ e. e.0) (above after packages)) × RisesFrom after (map (λ e. e.0) (above after packages))
+    (numbers_of_steps steps ≡ map (λ e. e.0) (above after packages))
+    × RisesFrom after (map (λ e. e.0) (above after packages))

@@ -1,14 +1,14 @@
 //! One argument of a query.
 
 ghost use Rattle.std.specs.Prelude.{◌≡◌, ◌+◌, ◌≤◌, ℕ, IsTrue, Err, IfOk, IfErr};
-ghost use Rattle.rpm_query.specs.Prelude.{above, argument_part, argument_reach, cost_to, DiskFault, HaltHands, HasRows, is_indexed, is_some_of, IsAskable, IsOfChain, IsOfPrint, IsOfRead, lent, Looks, packages_in, PartIs, Peeks, picks, Pkg, pkg_read, question_of, reach_all, reach_to, ReadsOf, Recalls, Serves, shown};
+ghost use Rattle.rpm_query.specs.Prelude.{above, argument_part, argument_reach, packages_cost_to, DiskFault, HaltHands, HasKeptRows, is_indexed, is_some_of, IsAskable, IsOfChain, IsOfPrint, IsOfRead, lent, OnlyReads, packages_in, PartIs, OnlyReadsIndexed, picks, Pkg, pkg_read, question_of, reach_all, reach_to, ReadsOf, Recalls, Serves, shown_outputs};
 
 use crate::missing::put_missing_part;
 use crate::printing::{halt_of_pick, print_above};
 use rpm_db::Db;
 use rpm_effects::Halt;
 use rpm_outside::{Buffered, Disk, File, Sink};
-use rpm_print::Deed;
+use rpm_print::Request;
 use rpm_qfparse::Format;
 use rpm_select::{Capability, Picker, Recent, Selection};
 use rpm_words::{Chosen, number_of};
@@ -73,7 +73,7 @@ fn is_any_picked<D: Disk>(
         → some ≡ is_some_of (above after (picks (packages_in D.Disk disk.old db.now) selection.now))
         → IfOk result (λ any. any ≡ is_some_of (picks (packages_in D.Disk disk.old db.now) selection.now)) }
     ensures reads { pkg_read D.Disk disk.new ≤ pkg_read D.Disk disk.old + reach_to after picker.old db.now }
-    ensures looks { Looks D.Disk Pkg (cost_to after db.now) disk.old disk.new }
+    ensures looks { OnlyReads D.Disk Pkg (packages_cost_to after db.now) disk.old disk.new }
     ensures disk { DiskFault D.Disk (result ≡ Err Halt.DiskFault) disk.old disk.new }
     ensures class { IfErr result IsOfRead }
 {
@@ -106,18 +106,18 @@ pub fn answer<D: Disk, O: Sink + Drop, E: Sink + Drop>(
     err: &mut Buffered<E>,
 ) -> Result<bool, Halt>
     requires asked { IsAskable D.Disk disk.old db.now }
-    ensures went { IsTrue D.tells → HasRows D.Disk disk.old db.now → Recalls (packages_in D.Disk disk.old db.now) recent.old → (j : ℕ)
+    ensures went { IsTrue D.tells → HasKeptRows D.Disk disk.old db.now → Recalls (packages_in D.Disk disk.old db.now) recent.old → (j : ℕ)
         → PartIs (argument_part format.now (packages_in D.Disk disk.old db.now) chosen after j text.now) result
-        (shown O.Sink E.Sink out.old err.old) (shown O.Sink E.Sink out.new err.new)
+        (shown_outputs O.Sink E.Sink out.old err.old) (shown_outputs O.Sink E.Sink out.new err.new)
         (ReadsOf j (argument_reach (is_indexed db.now) (packages_in D.Disk disk.old db.now) chosen text.now) db.now
         (pkg_read D.Disk disk.old) (pkg_read D.Disk disk.new)) }
-    ensures reads { IsTrue D.tells → HasRows D.Disk disk.old db.now
+    ensures reads { IsTrue D.tells → HasKeptRows D.Disk disk.old db.now
         → pkg_read D.Disk disk.new ≤ pkg_read D.Disk disk.old + reach_all
         (argument_reach (is_indexed db.now) (packages_in D.Disk disk.old db.now) chosen text.now) db.now }
     ensures recalls { IsTrue D.tells → Recalls (packages_in D.Disk disk.old db.now) recent.old
         → Recalls (packages_in D.Disk disk.old db.now) recent.new }
     ensures bad_index { IsTrue D.tells → IfErr result (IsOfChain (question_of chosen (lent text.now)) (D.files disk.old).idx) }
-    ensures looks { Peeks D.Disk (is_indexed db.now) disk.old disk.new }
+    ensures looks { OnlyReadsIndexed D.Disk (is_indexed db.now) disk.old disk.new }
     ensures disk { DiskFault D.Disk (result ≡ Err Halt.DiskFault) disk.old disk.new }
     ensures class { IfErr result IsOfPrint }
     ensures hands { HaltHands O.Sink E.Sink result out.old err.old out.new err.new }
@@ -130,9 +130,9 @@ pub fn answer<D: Disk, O: Sink + Drop, E: Sink + Drop>(
         Ok(picker) => picker,
         Err(fault) => return Err(halt_of_pick(fault)),
     };
-    let deed = Deed::Print;
+    let request = Request::Print;
     let printed = print_above(
-        alloc, &picker, recent, db, disk, &selection, after, deed, format, out, err,
+        alloc, &picker, recent, db, disk, &selection, after, request, format, out, err,
     )?;
     let any = is_any_picked(
         alloc,

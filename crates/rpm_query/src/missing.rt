@@ -1,7 +1,7 @@
 //! The line of an argument that picks nothing: on out, or on err where a number has no record.
 
 ghost use Rattle.std.specs.Prelude.{◌≡◌, ◌≢◌, ℕ, List, Err, IfErr, IfNone, IfSome};
-ghost use Rattle.rpm_query.specs.Prelude.{ErrTakes, HaltHands, IsOfPrint, missing, missing_part, missing_record, nothing, OutTakes, PartIs, PutsErr, PutsOut, shown, whole};
+ghost use Rattle.rpm_query.specs.Prelude.{ErrTakes, HaltHands, IsOfPrint, missing_line_part, missing_part, missing_record, nothing, OutTakes, PartIs, PutsErr, PutsOut, shown_outputs, whole_step};
 
 use rpm_effects::{Halt, put_line, put_out};
 use rpm_outside::{Buffered, Sink};
@@ -14,8 +14,8 @@ fn put_missing<O: Sink + Drop>(
     text: &[u8],
     back: &[u8],
 ) -> Result<bool, Halt>
-    ensures part { (j : ℕ) → OutTakes O.Sink (λ old new. PartIs (missing j front.now text.now back.now) result old new
-        (λ for. for ≡ whole j)) out.old out.new }
+    ensures part { (j : ℕ) → OutTakes O.Sink (λ old new. PartIs (missing_line_part j front.now text.now back.now) result old new
+        (λ for. for ≡ whole_step j)) out.old out.new }
     ensures puts { PutsOut O.Sink result out.old out.new }
 {
     put_out(out, &[front, text, back])
@@ -23,7 +23,7 @@ fn put_missing<O: Sink + Drop>(
 
 /// Writes to err that a number has no record.
 fn put_no_record<E: Sink + Drop>(err: &mut Buffered<E>, text: &[u8]) -> Result<bool, Halt>
-    ensures part { (j : ℕ) → ErrTakes E.Sink (λ old new. PartIs (missing_record j text.now) result old new (λ for. for ≡ whole j)) err.old err.new }
+    ensures part { (j : ℕ) → ErrTakes E.Sink (λ old new. PartIs (missing_record j text.now) result old new (λ for. for ≡ whole_step j)) err.old err.new }
     ensures puts { PutsErr E.Sink result err.old err.new }
 {
     match put_line(err, &[b"error: record ", text, b" could not be read\n"]) {
@@ -35,7 +35,7 @@ fn put_no_record<E: Sink + Drop>(err: &mut Buffered<E>, text: &[u8]) -> Result<b
 /// The texts around an argument in its line on out, where it has one.
 #[tactic(auto, unfolding(crate::specs::Queries::missing_part))]
 fn texts_around(chosen: Chosen) -> Option<(&'static [u8], &'static [u8])>
-    ensures some { IfSome result (λ texts. (j : ℕ) (text : List ℕ) → missing_part chosen j text ≡ missing j texts.0.now text texts.1.now) }
+    ensures some { IfSome result (λ texts. (j : ℕ) (text : List ℕ) → missing_part chosen j text ≡ missing_line_part j texts.0.now text texts.1.now) }
     ensures none { IfNone result (chosen ≢ Chosen.Number → (j : ℕ) (text : List ℕ) → missing_part chosen j text ≡ nothing) }
 {
     match chosen {
@@ -61,8 +61,8 @@ pub fn put_missing_part<O: Sink + Drop, E: Sink + Drop>(
     out: &mut Buffered<O>,
     err: &mut Buffered<E>,
 ) -> Result<bool, Halt>
-    ensures part { (j : ℕ) → PartIs (missing_part chosen j text.now) result (shown O.Sink E.Sink out.old err.old)
-        (shown O.Sink E.Sink out.new err.new) (λ for. for ≡ whole j) }
+    ensures part { (j : ℕ) → PartIs (missing_part chosen j text.now) result (shown_outputs O.Sink E.Sink out.old err.old)
+        (shown_outputs O.Sink E.Sink out.new err.new) (λ for. for ≡ whole_step j) }
     ensures no_read { result ≢ Err Halt.DiskFault }
     ensures class { IfErr result IsOfPrint }
     ensures hands { HaltHands O.Sink E.Sink result out.old err.old out.new err.new }

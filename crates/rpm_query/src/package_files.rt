@@ -1,7 +1,7 @@
 //! `AnswersOfFiles` of the theorem: a query of package files.
 
 ghost use Rattle.std.specs.Prelude.{◌≡◌, ◌≢◌, ℕ, [], ◌∷◌, false, IsTrue, Err, IfErr};
-ghost use Rattle.rpm_query.specs.Prelude.{answer_of_line, Anywhere, bearer, EndHands, file_part, HaltHands, is_of_words, IsOfPrint, left, meaning, package_header, PartIs, printed, query_files, read_part, ShelfFault, shown, told, CommandProgress};
+ghost use Rattle.rpm_query.specs.Prelude.{answer_of_line, Anywhere, bearer, EndHands, file_part, HaltHands, is_of_words, IsOfPrint, bytes_left, meaning, package_header, PartIs, printed_step, query_files, read_part, ShelfFault, shown_outputs, told_portion, CommandProgress};
 
 use crate::querying::count;
 use rpm_effects::{Halt, Tally, Why, put_absent, put_refused, stop_in};
@@ -30,8 +30,8 @@ fn print_package<O: Sink + Drop, E: Sink + Drop>(
     out: &mut Buffered<O>,
     err: &mut Buffered<E>,
 ) -> Result<bool, Halt>
-    ensures part { (j : ℕ) → PartIs (told (printed (bearer j 0) (meaning found.now 0 format.now) ∷ [])) result
-        (shown O.Sink E.Sink out.old err.old) (shown O.Sink E.Sink out.new err.new) Anywhere }
+    ensures part { (j : ℕ) → PartIs (told_portion (printed_step (bearer j 0) (meaning found.now 0 format.now) ∷ [])) result
+        (shown_outputs O.Sink E.Sink out.old err.old) (shown_outputs O.Sink E.Sink out.new err.new) Anywhere }
     ensures no_read { result ≢ Err Halt.DiskFault }
     ensures class { IfErr result IsOfPrint }
     ensures hands { HaltHands O.Sink E.Sink result out.old err.old out.new err.new }
@@ -51,8 +51,8 @@ fn print_opened<S: Shelf, O: Sink + Drop, E: Sink + Drop>(
     err: &mut Buffered<E>,
 ) -> Result<bool, Halt>
     ensures went { IsTrue S.tells → (j : ℕ) → PartIs (read_part format.now j path.now
-        (package_header (left (S.rest shelf.old)))) result (shown O.Sink E.Sink out.old err.old)
-        (shown O.Sink E.Sink out.new err.new) Anywhere }
+        (package_header (bytes_left (S.rest shelf.old)))) result (shown_outputs O.Sink E.Sink out.old err.old)
+        (shown_outputs O.Sink E.Sink out.new err.new) Anywhere }
     ensures paths { IsTrue S.tells → S.paths shelf.new ≡ S.paths shelf.old }
     ensures no_disk { result ≢ Err Halt.DiskFault }
     ensures shelf { ShelfFault S.Shelf (result ≡ Err Halt.ShelfFault) shelf.old shelf.new }
@@ -77,7 +77,7 @@ fn print_file<S: Shelf, O: Sink + Drop, E: Sink + Drop>(
     err: &mut Buffered<E>,
 ) -> Result<bool, Halt>
     ensures went { IsTrue S.tells → (j : ℕ) → PartIs (file_part format.now (S.paths shelf.old) j path.now) result
-        (shown O.Sink E.Sink out.old err.old) (shown O.Sink E.Sink out.new err.new) Anywhere }
+        (shown_outputs O.Sink E.Sink out.old err.old) (shown_outputs O.Sink E.Sink out.new err.new) Anywhere }
     ensures paths { IsTrue S.tells → S.paths shelf.new ≡ S.paths shelf.old }
     ensures no_disk { result ≢ Err Halt.DiskFault }
     ensures shelf { ShelfFault S.Shelf (result ≡ Err Halt.ShelfFault) shelf.old shelf.new }
@@ -100,7 +100,7 @@ pub fn print_files<S: Shelf, O: Sink + Drop, E: Sink + Drop>(
     err: &mut Buffered<E>,
 ) -> Why
     ensures went { IsTrue S.tells → CommandProgress (query_files format.now (S.paths shelf.old) words.now ask.now) result
-        (shown O.Sink E.Sink out.old err.old) (shown O.Sink E.Sink out.new err.new) Anywhere }
+        (shown_outputs O.Sink E.Sink out.old err.old) (shown_outputs O.Sink E.Sink out.new err.new) Anywhere }
     ensures done { is_of_words result ≡ false }
     ensures no_disk { result ≢ Why.DiskFault }
     ensures paths { IsTrue S.tells → S.paths shelf.new ≡ S.paths shelf.old }

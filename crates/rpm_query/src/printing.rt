@@ -1,13 +1,13 @@
 //! The packages that a question picks, printed one after the other.
 
 ghost use Rattle.std.specs.Prelude.{◌≡◌, ◌≢◌, ℕ, ◌+◌, ◌-◌, ◌≤◌, ◌||◌, [], false, true, IsTrue, Err, IfOk, IfErr};
-ghost use Rattle.rpm_query.specs.Prelude.{above, cost_all, cost_to, DiskFault, fails_in, HaltHands, HasRows, is_some_of, IsAskable, IsOfPrint, Looks, packages_in, packages_part, PartIs, picks, Pkg, pkg_read, prints_packages, reach_all, reach_to, ReadsIn, Recalls, Serves, shown, step_by, halt_of_pick, unasked};
-ghost use Rattle.rpm_select.specs.Reach.{asks};
+ghost use Rattle.rpm_query.specs.Prelude.{above, packages_cost, packages_cost_to, DiskFault, fails_in, HaltHands, HasKeptRows, is_some_of, IsAskable, IsOfPrint, OnlyReads, packages_in, packages_part, PartIs, picks, Pkg, pkg_read, prints_packages, reach_all, reach_to, ReadsIn, Recalls, Serves, shown_outputs, step_by, halt_of_pick, unindexed_reach};
+ghost use Rattle.rpm_select.specs.Reach.{asks_index};
 
 use rpm_db::Db;
 use rpm_effects::Halt;
 use rpm_outside::{Buffered, Disk, File, Sink};
-use rpm_print::{Deed, print_picked};
+use rpm_print::{Request, print_picked};
 use rpm_qfparse::Format;
 use rpm_select::{PickFault, Picker, Recent, Selection};
 use std::alloc::Global;
@@ -39,10 +39,10 @@ pub fn begin_unasked<D: Disk>(
     selection: &Selection<'_>,
 ) -> Picker
     requires asked { IsAskable D.Disk disk.old db.now }
-    requires unasked { asks db.now selection.now ≡ false }
-    ensures reach { IsTrue D.tells → HasRows D.Disk disk.old db.now → result ≡ unasked selection.now }
-    ensures serves { IsTrue D.tells → HasRows D.Disk disk.old db.now → Serves result (packages_in D.Disk disk.new db.now) selection.now }
-    ensures looks { Looks D.Disk Pkg 0 disk.old disk.new }
+    requires unasked { asks_index db.now selection.now ≡ false }
+    ensures reach { IsTrue D.tells → HasKeptRows D.Disk disk.old db.now → result ≡ unindexed_reach selection.now }
+    ensures serves { IsTrue D.tells → HasKeptRows D.Disk disk.old db.now → Serves result (packages_in D.Disk disk.new db.now) selection.now }
+    ensures looks { OnlyReads D.Disk Pkg 0 disk.old disk.new }
     ensures faults { D.faults disk.old ≤ D.faults disk.new }
 {
     match Picker::new(alloc, db, disk, selection) {
@@ -61,17 +61,17 @@ pub fn print_above<D: Disk, O: Sink + Drop, E: Sink + Drop>(
     disk: &mut D,
     selection: &Selection<'_>,
     after: u32,
-    deed: Deed,
+    request: Request,
     format: &Format,
     out: &mut Buffered<O>,
     err: &mut Buffered<E>,
 ) -> Result<PrintedPackages, Halt>
     requires asked { IsAskable D.Disk disk.old db.now }
-    requires prints { prints_packages deed ≡ true }
+    requires prints { prints_packages request ≡ true }
     ensures went { IsTrue D.tells → Serves picker.now (packages_in D.Disk disk.old db.now) selection.now
         → Recalls (packages_in D.Disk disk.old db.now) recent.old → (j : ℕ)
-        → PartIs (packages_part (step_by deed format.now j) after (picks (packages_in D.Disk disk.old db.now) selection.now))
-        (fails_in result) (shown O.Sink E.Sink out.old err.old) (shown O.Sink E.Sink out.new err.new)
+        → PartIs (packages_part (step_by request format.now j) after (picks (packages_in D.Disk disk.old db.now) selection.now))
+        (fails_in result) (shown_outputs O.Sink E.Sink out.old err.old) (shown_outputs O.Sink E.Sink out.new err.new)
         (ReadsIn j after picker.now db.now (pkg_read D.Disk disk.old) (pkg_read D.Disk disk.new)) }
     ensures some { IsTrue D.tells → Serves picker.now (packages_in D.Disk disk.old db.now) selection.now
         → Recalls (packages_in D.Disk disk.old db.now) recent.old
@@ -80,7 +80,7 @@ pub fn print_above<D: Disk, O: Sink + Drop, E: Sink + Drop>(
     ensures recalls { IsTrue D.tells → Recalls (packages_in D.Disk disk.old db.now) recent.old
         → Recalls (packages_in D.Disk disk.old db.now) recent.new }
     ensures reads { pkg_read D.Disk disk.new + reach_to after picker.now db.now ≤ pkg_read D.Disk disk.old + reach_all picker.now db.now }
-    ensures looks { Looks D.Disk Pkg (cost_all db.now - cost_to after db.now) disk.old disk.new }
+    ensures looks { OnlyReads D.Disk Pkg (packages_cost db.now - packages_cost_to after db.now) disk.old disk.new }
     ensures disk { DiskFault D.Disk (result ≡ Err Halt.DiskFault) disk.old disk.new }
     ensures unbroken { (unit : ℕ) → result ≢ Err (Halt.BadIndex unit) }
     ensures class { IfErr result IsOfPrint }
@@ -95,7 +95,7 @@ pub fn print_above<D: Disk, O: Sink + Drop, E: Sink + Drop>(
                 let Some(picked) = recent.recall(next) else {
                     unreachable!()
                 };
-                let to_out = print_picked(alloc, deed, format, picked, out, err)?;
+                let to_out = print_picked(alloc, request, format, picked, out, err)?;
                 number = next;
                 some = true;
                 fails |= !to_out;

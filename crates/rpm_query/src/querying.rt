@@ -1,7 +1,7 @@
 //! `AnswersPlain` and `AnswersKeyed` of the theorem: the queries of an opened database.
 
 ghost use Rattle.std.specs.Prelude.{◌≡◌, ◌≢◌, ◌+◌, ◌<◌, ◌≤◌, ℕ, [], ◌∷◌, if◌then◌else◌, false, true, map, IsTrue};
-ghost use Rattle.rpm_query.specs.Prelude.{argument_part, argument_reach, before, cost_all, DiskFault, EndHands, Everything, HasRows, idle, parts_in_turn, is_foreign, is_indexed, is_of_opening, IsAskable, IsOfChains, Looks, packages_in, packages_part, Peeks, picks, Pkg, pkg_read, prints_packages, reach_sum, reached_by, shown, step_by, text_at, CommandProgress};
+ghost use Rattle.rpm_query.specs.Prelude.{argument_part, argument_reach, before_others, packages_cost, DiskFault, EndHands, Everything, HasKeptRows, idle, parts_in_turn, is_foreign, is_indexed, is_of_opening, IsAskable, IsOfChains, OnlyReads, packages_in, packages_part, OnlyReadsIndexed, picks, Pkg, pkg_read, prints_packages, reach_sum, reached_by, shown_outputs, step_by, word_at, CommandProgress};
 ghost use Rattle.rpm_select.specs.declared.selection.Selection.TheVariants as question;
 
 use crate::answering::answer;
@@ -9,7 +9,7 @@ use crate::printing::{begin_unasked, print_above};
 use rpm_db::Db;
 use rpm_effects::Why;
 use rpm_outside::{Buffered, Disk, File, Sink};
-use rpm_print::Deed;
+use rpm_print::Request;
 use rpm_qfparse::Format;
 use rpm_select::{Recent, Selection};
 use rpm_words::{Ask, Words};
@@ -21,20 +21,20 @@ pub fn query_all<D: Disk, O: Sink + Drop, E: Sink + Drop>(
     db: &Db,
     disk: &mut D,
     after: u32,
-    deed: Deed,
+    request: Request,
     format: &Format,
     out: &mut Buffered<O>,
     err: &mut Buffered<E>,
 ) -> Why
     requires asked { IsAskable D.Disk disk.old db.now }
-    requires prints { prints_packages deed ≡ true }
-    ensures went { IsTrue D.tells → HasRows D.Disk disk.old db.now
-        → CommandProgress (before (packages_part (step_by deed format.now 0) after (picks (packages_in D.Disk disk.old db.now)
-        question.All)) idle) result (shown O.Sink E.Sink out.old err.old) (shown O.Sink E.Sink out.new err.new)
+    requires prints { prints_packages request ≡ true }
+    ensures went { IsTrue D.tells → HasKeptRows D.Disk disk.old db.now
+        → CommandProgress (before_others (packages_part (step_by request format.now 0) after (picks (packages_in D.Disk disk.old db.now)
+        question.All)) idle) result (shown_outputs O.Sink E.Sink out.old err.old) (shown_outputs O.Sink E.Sink out.new err.new)
         (λ for. pkg_read D.Disk disk.new ≤ pkg_read D.Disk disk.old + reached_by (Everything ∷ []) db.now for) }
     ensures done { is_foreign result ≡ false }
     ensures opened { is_of_opening result ≡ false }
-    ensures looks { Looks D.Disk Pkg (cost_all db.now) disk.old disk.new }
+    ensures looks { OnlyReads D.Disk Pkg (packages_cost db.now) disk.old disk.new }
     ensures disk { DiskFault D.Disk (result ≡ Why.DiskFault) disk.old disk.new }
     ensures unbroken { (unit : ℕ) → result ≢ Why.BadIndex unit }
     ensures hands { EndHands O.Sink E.Sink result out.old err.old out.new err.new }
@@ -48,7 +48,7 @@ pub fn query_all<D: Disk, O: Sink + Drop, E: Sink + Drop>(
         disk,
         &Selection::All,
         after,
-        deed,
+        request,
         format,
         out,
         err,
@@ -80,20 +80,20 @@ pub fn query_each<D: Disk, O: Sink + Drop, E: Sink + Drop>(
     err: &mut Buffered<E>,
 ) -> Why
     requires asked { IsAskable D.Disk disk.old db.now }
-    ensures went { IsTrue D.tells → HasRows D.Disk disk.old db.now
+    ensures went { IsTrue D.tells → HasKeptRows D.Disk disk.old db.now
         → CommandProgress (parts_in_turn (argument_part format.now (packages_in D.Disk disk.old db.now) ask.now.chosen ask.now.after) 0
-        (map (text_at words.now) ask.now.arguments)) result (shown O.Sink E.Sink out.old err.old)
-        (shown O.Sink E.Sink out.new err.new) (λ for. pkg_read D.Disk disk.new ≤ pkg_read D.Disk disk.old + reached_by
+        (map (word_at words.now) ask.now.arguments)) result (shown_outputs O.Sink E.Sink out.old err.old)
+        (shown_outputs O.Sink E.Sink out.new err.new) (λ for. pkg_read D.Disk disk.new ≤ pkg_read D.Disk disk.old + reached_by
         (map (argument_reach (is_indexed db.now) (packages_in D.Disk disk.old db.now) ask.now.chosen)
-        (map (text_at words.now) ask.now.arguments)) db.now for) }
+        (map (word_at words.now) ask.now.arguments)) db.now for) }
     ensures done { is_foreign result ≡ false }
     ensures opened { is_of_opening result ≡ false }
-    ensures reads { IsTrue D.tells → HasRows D.Disk disk.old db.now
+    ensures reads { IsTrue D.tells → HasKeptRows D.Disk disk.old db.now
         → pkg_read D.Disk disk.new ≤ pkg_read D.Disk disk.old + reach_sum
         (map (argument_reach (is_indexed db.now) (packages_in D.Disk disk.old db.now) ask.now.chosen)
-        (map (text_at words.now) ask.now.arguments)) db.now }
-    ensures bad_index { IsTrue D.tells → IsOfChains ask.now.chosen (map (text_at words.now) ask.now.arguments) (D.files disk.old).idx result }
-    ensures looks { Peeks D.Disk (is_indexed db.now) disk.old disk.new }
+        (map (word_at words.now) ask.now.arguments)) db.now }
+    ensures bad_index { IsTrue D.tells → IsOfChains ask.now.chosen (map (word_at words.now) ask.now.arguments) (D.files disk.old).idx result }
+    ensures looks { OnlyReadsIndexed D.Disk (is_indexed db.now) disk.old disk.new }
     ensures disk { DiskFault D.Disk (result ≡ Why.DiskFault) disk.old disk.new }
     ensures hands { EndHands O.Sink E.Sink result out.old err.old out.new err.new }
 {

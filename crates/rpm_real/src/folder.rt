@@ -22,7 +22,7 @@ pub struct Folder {
     // A file was made in the folder, and the folder wasn't synced since.
     is_changed: bool,
     // The folder was synced, and no file was made in it since.
-    is_settled: bool,
+    is_durable: bool,
 }
 
 /// The files by which other kinds of rpm's database are known.
@@ -75,7 +75,7 @@ impl Folder {
             handle: None,
             is_made: false,
             is_changed: false,
-            is_settled: false,
+            is_durable: false,
         })
     }
 
@@ -148,14 +148,14 @@ impl Folder {
             self.make_all(rt)?;
         }
         self.is_changed = true;
-        self.is_settled = false;
+        self.is_durable = false;
         Ok(())
     }
 
     /// Makes the names in the folder durable. That is done once, and again where a file was made since. Who may not
     /// read the folder, and made no file, goes without.
-    pub fn settle(&mut self) -> Result<(), Failed> {
-        if self.is_settled {
+    pub fn make_names_durable(&mut self) -> Result<(), Failed> {
+        if self.is_durable {
             return Ok(());
         }
         match &self.handle {
@@ -167,7 +167,7 @@ impl Folder {
             None => {}
         }
         self.is_changed = false;
-        self.is_settled = true;
+        self.is_durable = true;
         Ok(())
     }
 }

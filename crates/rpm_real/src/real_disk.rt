@@ -2,7 +2,7 @@
 
 ghost use Rattle.std.specs.Prelude.{◌≡◌, false, [], is_err};
 ghost use Rattle.rpm_outside.specs.Causes.{HasCause};
-ghost use Rattle.rpm_real.specs.Counts.{Counted};
+ghost use Rattle.rpm_real.specs.Counts.{FaultCount};
 
 use crate::door::Door;
 use crate::obstacle::Obstacle;
@@ -85,7 +85,7 @@ impl<'a, R: Files<File = fs::File> + Clock> RealDisk<'a, R> {
 /// Counts a failure.
 fn counted<T: Copy>(faults: &mut u64, answer: Result<T, Failed>) -> Result<T, Failed>
     ensures cause { HasCause faults.old faults.new result }
-    ensures once { Counted (is_err result) faults.old faults.new }
+    ensures once { FaultCount (is_err result) faults.old faults.new }
 {
     if answer.is_err() {
         *faults = faults.saturating_add(1);
@@ -94,7 +94,7 @@ fn counted<T: Copy>(faults: &mut u64, answer: Result<T, Failed>) -> Result<T, Fa
 }
 
 impl<'a, R: Files<File = fs::File> + Clock> Disk for RealDisk<'a, R> {
-    ghost use Rattle.rpm_real.specs.Counts.{count_of};
+    ghost use Rattle.rpm_real.specs.Counts.{count_of_file};
 
     ghost tells = { false };
 
@@ -104,13 +104,13 @@ impl<'a, R: Files<File = fs::File> + Clock> Disk for RealDisk<'a, R> {
 
     ghost moment = { λ disk. disk.moment };
 
-    ghost bytes_read = { λ disk. count_of disk.pkg.read disk.idx.read disk.log.read };
+    ghost bytes_read = { λ disk. count_of_file disk.pkg.read disk.idx.read disk.log.read };
 
     ghost faults = { λ disk. disk.faults };
 
     ghost follows = { λ old new. Unit {0} };
 
-    ghost outcome = { λ old call failed new. Counted failed old.faults new.faults };
+    ghost outcome = { λ old call failed new. FaultCount failed old.faults new.faults };
 
     ghost as_read = { λ disk told. tt };
 

@@ -205,6 +205,6 @@ impl RealFile {
         if file.sync_all().is_err() {
             return Err(Failed);
         }
-        folder.settle()
+        folder.make_names_durable()
     }
 }

@@ -2,7 +2,7 @@
 
 ghost use Rattle.std.specs.Prelude.{false, [], refl};
 ghost use Rattle.std.specs.Io.{WritesAtMost};
-ghost use Rattle.rpm_real.specs.Counts.{Counted};
+ghost use Rattle.rpm_real.specs.Counts.{FaultCount};
 
 use rpm_outside::{Failed, Sink};
 use std::io;
@@ -44,7 +44,7 @@ impl<P: Print + Drop> Sink for RealSink<P> {
 
     ghost follows = { λ old new. Unit {0} };
 
-    ghost outcome = { λ old failed new. Counted failed old.faults new.faults };
+    ghost outcome = { λ old failed new. FaultCount failed old.faults new.faults };
 
     ghost follows_refl = { λ sink. tt };
 

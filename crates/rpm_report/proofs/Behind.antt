@@ -1,17 +1,17 @@
 -- One part of a report after another; a report that tells the packages that can't be read, and then what a question found.
 use Rattle.std.proofs.Common.{◌≡◌, ℕ, Bool, true, false, ◌||◌, List, [], ◌∷◌, ◌++◌, Result, Ok, Err, refl, sym, ap, ◌∙◌, subst}
 use Rattle.std.specs.Prelude.{IsTrue}
-use Rattle.rpm_check.specs.Frame.{Asks}
+use Rattle.rpm_check.specs.Frame.{CheckQuestion}
 use Rattle.rpm_outside.specs.declared.disk.Disk as disk
-use Rattle.rpm_report.proofs.Vocabulary.{Anywhere, behind, CheckFault, Database, Files, Halt, halt_of_check, HaltsOfSome, outputs, PartIs, Portion}
+use Rattle.rpm_report.proofs.Vocabulary.{Anywhere, portion_behind, CheckFault, Database, Files, Halt, halt_of_check, HaltsOfSome, outputs, PartIs, Portion}
 use Rattle.rpm_report.proofs.Vocabulary.{PartProgress}
 use Rattle.rpm_report.proofs.Vocabulary.{Step, Through}
-use Rattle.rpm_select.specs.Frame.{HasRows}
+use Rattle.rpm_select.specs.Frame.{HasKeptRows}
 use Rattle.std.proofs.lemmas.List.{append-nil}
-use Rattle.rpm_report.specs.inner.Checked.{broken_stops, lawful_stops}
-use Rattle.rpm_print.specs.inner.Reached.{rows_at}
-use Rattle.rpm_effects.specs.inner.Reaching.{through_none, through_more, goes_start, goes_stop}
-use Rattle.rpm_effects.specs.inner.Stopping.{reached_unsunk}
+use Rattle.rpm_report.specs.laws.Checked.{broken_stops, lawful_stops}
+use Rattle.rpm_print.specs.laws.Reached.{rows_at}
+use Rattle.rpm_effects.specs.laws.Reaching.{through_none, through_more, goes_start, goes_stop}
+use Rattle.rpm_effects.specs.laws.Stopping.{reached_unsunk}
 
 -- what stops the second stops both
 both_stop : (ot et : Bool) (p q : List Step) (T T' : Type 0) (what : Halt) (o o' o'' e e' e'' : List ℕ) → Through p (outputs ot o et e) (outputs ot o' et e')
@@ -41,13 +41,13 @@ or_false false = refl
 
 module _ {p : Portion} (q : Portion) {ot et : Bool} {o o' e e' : List ℕ} where
   pub behind_first : {what : Halt} → PartIs p (Err what) (outputs ot o et e) (outputs ot o' et e') Anywhere
-      → PartIs (behind p q) (Err what) (outputs ot o et e) (outputs ot o' et e') Anywhere
+      → PartIs (portion_behind p q) (Err what) (outputs ot o et e) (outputs ot o' et e') Anywhere
   behind_first {what = what} first = record { steps = first_stops ot et p.steps q.steps Bool Bool what o o' e e' first.steps; fails = tt }
 
   module _ {fails : Bool} (first : PartIs p (Ok fails) (outputs ot o et e) (outputs ot o' et e') Anywhere) {o'' e'' : List ℕ} where
     pub behind_stop : (T : Type 0) {what : Halt} {steps : List Step} → steps ≡ q.steps
         → PartProgress {T = T} steps (Err what) (outputs ot o' et e') (outputs ot o'' et e'') Anywhere
-        → PartIs (behind p q) (Err what) (outputs ot o et e) (outputs ot o'' et e'') Anywhere
+        → PartIs (portion_behind p q) (Err what) (outputs ot o et e) (outputs ot o'' et e'') Anywhere
     behind_stop T {what = what} is stop = record {
       steps = both_stop ot et p.steps q.steps T Bool what o o' o'' e e' e'' first.steps
           (subst (λ (ss : List Step). PartProgress {T = T} ss (Err what) (outputs ot o' et e') (outputs ot o'' et e'') Anywhere) is stop);
@@ -55,7 +55,7 @@ module _ {p : Portion} (q : Portion) {ot et : Bool} {o o' e e' : List ℕ} where
     }
 
     pub behind_told : {any : Bool} → q.fails ≡ any → Through q.steps (outputs ot o' et e') (outputs ot o'' et e'')
-        → PartIs (behind p q) (Ok (fails || any)) (outputs ot o et e) (outputs ot o'' et e'') Anywhere
+        → PartIs (portion_behind p q) (Ok (fails || any)) (outputs ot o et e) (outputs ot o'' et e'') Anywhere
     behind_told any went = record {
       steps = through_more {ot = ot} {et = et} p.steps q.steps o o' o'' e e' e'' first.steps went;
       fails = ap (λ (x : Bool). x || q.fails) first.fails ∙ ap (λ (x : Bool). fails || x) any;
@@ -63,16 +63,16 @@ module _ {p : Portion} (q : Portion) {ot et : Bool} {o o' e e' : List ℕ} where
 
     -- where the second doesn't fail
     pub behind_sound : q.fails ≡ false → Through q.steps (outputs ot o' et e') (outputs ot o'' et e'')
-        → PartIs (behind p q) (Ok fails) (outputs ot o et e) (outputs ot o'' et e'') Anywhere
+        → PartIs (portion_behind p q) (Ok fails) (outputs ot o et e) (outputs ot o'' et e'') Anywhere
     behind_sound sound went = (let part = behind_told sound went in record { steps = part.steps; fails = part.fails ∙ or_false fails })
 
 -- a question that fails after calls that only read
 module _ {D : Type 0} (d : disk.Ghosts D) (db : Database) {old mid new : D} {X : Type 0} {fault : CheckFault} (same : d.files mid ≡ d.files old)
-    (asks : Asks d {X = X} mid new db (Err fault)) (told : IsTrue d.tells) where
+    (asks : CheckQuestion d {X = X} mid new db (Err fault)) (told : IsTrue d.tells) where
   pub question_broken : HaltsOfSome (d.files old).idx (halt_of_check fault)
   question_broken = subst (λ (f : Files). HaltsOfSome f.idx (halt_of_check fault)) same (broken_stops (d.files mid).idx fault (asks.broken told))
 
-  pub question_read : HasRows d old db → (steps : List Step) (ot et : Bool) (o e : List ℕ)
+  pub question_read : HasKeptRows d old db → (steps : List Step) (ot et : Bool) (o e : List ℕ)
       → PartProgress {T = Bool} steps (Err (halt_of_check fault)) (outputs ot o et e) (outputs ot o et e) Anywhere
   question_read rows steps ot et o e =
       reached_unsunk Bool steps (halt_of_check fault) (outputs ot o et e) (outputs ot o et e) Anywhere

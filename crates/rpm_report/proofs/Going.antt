@@ -4,7 +4,7 @@ use Rattle.std.specs.Prelude.{IsTrue}
 use Rattle.rpm_outside.specs.declared.disk.Disk as disk
 use Rattle.rpm_outside.specs.declared.sink.Sink as sink
 use Rattle.rpm_report.proofs.Vocabulary.{Anywhere, Buffered, Files, Halt, inner, outputs, OutTakes, PartProgress, Step, TellsOut, Through}
-use Rattle.rpm_effects.specs.inner.Reaching.{Goes, goes_start, goes_more, goes_stop, goes_end}
+use Rattle.rpm_effects.specs.laws.Reaching.{StepsSoFar, goes_start, goes_more, goes_stop, goes_end}
 use Rattle.rpm_report.proofs.SoFar.{SoFar, so_far_none, so_far_more, so_far_stops, so_far_ends}
 
 module _ {D S : Type 0} (d : disk.Ghosts D) (s : sink.Ghosts S) where
@@ -12,7 +12,7 @@ module _ {D S : Type 0} (d : disk.Ghosts D) (s : sink.Ghosts S) where
   pub record Going (all left : Files → List Step) (old new : D) (from to : Buffered S) : Type 0 where
     pub far : SoFar d s old new from to
     pub goes : IsTrue d.tells → (et : Bool) (e : List ℕ)
-        → Goes s.tells et (all (d.files old)) (left (d.files old)) (s.taken (inner from)) e (s.taken (inner to)) e
+        → StepsSoFar s.tells et (all (d.files old)) (left (d.files old)) (s.taken (inner from)) e (s.taken (inner to)) e
 
   pub going_none : ((x : D) → d.follows x x) → ((x : S) → s.follows x x) → (all : Files → List Step) (at : D) (to : Buffered S) → Going all all at at to to
   going_none stays keeps all at to = record {

@@ -1,9 +1,9 @@
 -- Requirements of one package that stand in a row, whose lines are written in one piece.
 use Rattle.std.proofs.Common.{◌≡◌, ℕ, ◌+◌, ◌-◌, ◌<◌, ◌≤◌, ◌==◌, ◌⊎◌, suc, Bool, true, List, [], ◌∷◌, ◌++◌, map, take, length, get_or, Option, Some, None}
 use Rattle.std.proofs.Common.{Result, Ok, Err, refl, sym, ap, ◌∙◌, subst, append_assoc, add-one, inl, inr, arith}
-use Rattle.rpm_report.proofs.Vocabulary.{All, Anywhere, Bad, Bearer, bearer, err_bytes, FinMap, flat_map, Gained, get, Good, Header, header, HeaderFault}
+use Rattle.rpm_report.proofs.Vocabulary.{All, Anywhere, Bad, Bearer, bearer, err_bytes, FinMap, flat_map, GainIs, get, Good, Header, header, HeaderFault}
 use Rattle.rpm_report.proofs.Vocabulary.{nat_cmp, out_bytes, Outputs, Package, package_text, prefix_len, PartProgress, read_text, Step, StepIs, Halt}
-use Rattle.rpm_report.proofs.Vocabulary.{StoppedWithin}
+use Rattle.rpm_report.proofs.Vocabulary.{StopWithin}
 use Rattle.rpm_report.proofs.Vocabulary.{Through, ToOut, Unmet, unmet_lines, unmet_step, unmet_text}
 use Rattle.std.specs.Prelude.{slice_get}
 use Rattle.std.proofs.Math.Seq.{take-append-add, take-suc}
@@ -14,7 +14,7 @@ use Rattle.std.proofs.lemmas.List.{append-nil, get_or-take, map-append, take-app
 use Rattle.std.proofs.lemmas.List.Folds.{flat_map-map, length-prefix_len}
 use Rattle.std.proofs.lemmas.List.Sums.{prefix_len_passes}
 use Rattle.rpm_effects.specs.declared.tally.Halt.TheVariants as halt
-use Rattle.rpm_effects.specs.inner.Reaching.{not_begun}
+use Rattle.rpm_effects.specs.laws.Reaching.{not_begun}
 
 -- ---- lines in one piece
 
@@ -64,12 +64,12 @@ module _ {X : Type 0} (b : Bearer) (line : X → List ℕ) where
   module _ (text : List ℕ) (old new : Outputs) where
     piece_through : (xs : List X) → text ≡ flat_map line xs → Through (ToOut b text ∷ []) old new → Through (map line_step xs) old new
     piece_through xs is went = record {
-      out = subst (λ (t : List ℕ). Gained old.out_tells old.out new.out t) (append-nil text ∙ is ∙ sym (out_of xs)) went.out;
-      err = subst (λ (t : List ℕ). Gained old.err_tells old.err new.err t) (sym (err_of xs)) went.err;
+      out = subst (λ (t : List ℕ). GainIs old.out_tells old.out new.out t) (append-nil text ∙ is ∙ sym (out_of xs)) went.out;
+      err = subst (λ (t : List ℕ). GainIs old.err_tells old.err new.err t) (sym (err_of xs)) went.err;
     }
 
     piece_within : (x : X) (xs : List X) → text ≡ flat_map line (x ∷ xs) → (k : ℕ) → Through (ToOut b (take k text) ∷ []) old new
-        → StoppedWithin (map line_step (x ∷ xs)) true old new Anywhere
+        → StopWithin (map line_step (x ∷ xs)) true old new Anywhere
     piece_within x xs is k went =
         let c : Cut (x ∷ xs) k = cut_at x xs k in
         let last = take c.bytes (line c.one) in
@@ -87,9 +87,9 @@ module _ {X : Type 0} (b : Bearer) (line : X → List ℕ) where
           sink = refl;
           bytes = c.bytes;
           through = record {
-            out = subst (λ (t : List ℕ). Gained old.out_tells old.out new.out t)
+            out = subst (λ (t : List ℕ). GainIs old.out_tells old.out new.out t)
                 (append-nil (take k text) ∙ ap (take k) is ∙ c.text_is ∙ sym out_is) went.out;
-            err = subst (λ (t : List ℕ). Gained old.err_tells old.err new.err t) (sym err_is) went.err;
+            err = subst (λ (t : List ℕ). GainIs old.err_tells old.err new.err t) (sym err_is) went.err;
           };
           reads = tt;
         }

@@ -2,10 +2,10 @@
 use Rattle.std.proofs.Common.{◌≡◌, ℕ, ◌≤◌, true, Result, Ok, Err, ap, arith}
 use Rattle.rpm_outside.specs.declared.disk.Disk as disk
 use Rattle.rpm_outside.specs.declared.sink.Sink as sink
-use Rattle.rpm_report.proofs.Vocabulary.{Buffered, DiskFault, Glances, Halt, Hand, inner, Rose, Peeks}
+use Rattle.rpm_report.proofs.Vocabulary.{Buffered, DiskFault, OnlyReadsBoth, Halt, Hand, inner, Rose, OnlyReadsIndexed}
 use Rattle.rpm_effects.specs.declared.tally.Halt.TheVariants as halt
-use Rattle.rpm_print.specs.Frame.{Peeks, TellsTo}
-use Rattle.rpm_print.specs.inner.Peeking.{peeks_none, peeks_then}
+use Rattle.rpm_print.specs.Frame.{OnlyReadsIndexed, TellsTo}
+use Rattle.rpm_print.specs.laws.Peeking.{peeks_none, peeks_then}
 
 abbrev failed : (T : Type 0) → Halt → Result T Halt
 failed T what = Err what
@@ -24,7 +24,7 @@ higher a b c le rose = omega (arith, le, rose)
 
 module _ {D : Type 0} (d : disk.Ghosts D) where
   -- where it isn't said how much of an index is read
-  pub glances : {old new : D} → Glances d old new → Peeks d true old new
+  pub glances : {old new : D} → OnlyReadsBoth d old new → OnlyReadsIndexed d true old new
   glances looks = record {
     untouched = looks.untouched;
     moment_stays = looks.moment_stays;
@@ -34,12 +34,13 @@ module _ {D : Type 0} (d : disk.Ghosts D) where
     goes_on = looks.goes_on;
   }
 
-  pub peeks_more : ((x y z : D) → d.follows x y → d.follows y z → d.follows x z) → {a b c : D} → Peeks d true a b → Peeks d true b c → Peeks d true a c
+  pub peeks_more : ((x y z : D) → d.follows x y → d.follows y z → d.follows x z) → {a b c : D} → OnlyReadsIndexed d true a b → OnlyReadsIndexed d true b c
+      → OnlyReadsIndexed d true a c
   peeks_more goes first second = peeks_then d goes first second
 
 module _ {D S : Type 0} (d : disk.Ghosts D) (s : sink.Ghosts S) where
   pub record SoFar (old new : D) (from to : Buffered S) : Type 0 where
-    pub looks : Peeks d true old new
+    pub looks : OnlyReadsIndexed d true old new
     pub disk : d.faults old ≤ d.faults new
     pub taken : s.faults (inner from) ≤ s.faults (inner to)
     pub rest : s.follows (inner from) (inner to)

@@ -4,10 +4,10 @@ use Rattle.std.proofs.Common.{◌∙◌, subst, add-one, drop-cons, arith}
 use Rattle.std.specs.Prelude.{codes, slice_index_or}
 use Rattle.rpm_report.proofs.Vocabulary.{Anywhere, Bearer, class_steps, cycle_line, fails, flat_map, Halt, header, Header, header-own, HeaderFault, label_step}
 use Rattle.rpm_report.proofs.Vocabulary.{nat_cmp, Outputs, Package, package_of, package_text, PartIs, PartProgress, read_as, read_text, Step, StepIs, ToOut}
-use Rattle.rpm_report.proofs.Vocabulary.{whole}
+use Rattle.rpm_report.proofs.Vocabulary.{whole_step}
 use Rattle.std.proofs.lemmas.Bool.Decides.{nat_tests}
 use Rattle.std.specs.FinMap as finite
-use Rattle.rpm_effects.specs.inner.Stopping.{reached_first, reached_reads}
+use Rattle.rpm_effects.specs.laws.Stopping.{reached_first, reached_reads}
 
 -- ---- a package
 
@@ -60,7 +60,7 @@ module _ (packages : finite.FinMap nat_cmp Package) (class : List ℕ) where
       rw test refl
 
   pub more_classes : (length class ≡ 1 → ⊥) → class_steps packages class
-      ≡ ToOut (whole 0) (cycle_line (length class)) ∷ map (label_step packages (codes "  ")) class
+      ≡ ToOut (whole_step 0) (cycle_line (length class)) ∷ map (label_step packages (codes "  ")) class
   more_classes not =
       let test : (length class == 1) ≡ false = grind (arith, nat_tests) in
       rw test refl

@@ -1,4 +1,5 @@
--- What is told of the paths that several packages own and that differ: for `--checkfiles` the course of `plain` on the page (`rpm_tool`, Theorem.antt).
+-- What is told of the paths that several packages own and that differ: for `--checkfiles` the course of `plain` on the
+-- page (`rpm_tool`, Theorem.antt).
 use Rattle.std.specs.Prelude.{ℕ, List, [], ◌∷◌, ◌++◌, map, codes, Bool, true, false, unwrap_or}
 use Rattle.std.specs.List.{concat}
 use Rattle.std.specs.Ordering.{nat_cmp}
@@ -6,10 +7,10 @@ use Rattle.std.specs.FinMap.{FinMap}
 use Rattle.rpm_db.specs.State.{Package}
 use Rattle.rpm_filecheck.specs.Owners.{Conflict}
 use Rattle.rpm_filecheck.specs.Conflicts.{Report, conflicts, bad, told_label}
-use Rattle.rpm_effects.specs.Steps.{whole, Step, ToOut, ToErr, Course, idle}
-use Rattle.rpm_effects.specs.Portions.{fails, together, before}
+use Rattle.rpm_effects.specs.Steps.{whole_step, Step, ToOut, ToErr, Course, idle}
+use Rattle.rpm_effects.specs.Portions.{fails, together, before_others}
 use Rattle.rpm_print.specs.Printed.{bad_line}
-use Rattle.rpm_report.specs.Labels.{label}
+use Rattle.rpm_report.specs.Labels.{label_of_number}
 
 -- ---- its lines
 
@@ -26,11 +27,11 @@ conflict_line first second c =
 
 -- a line comes once all packages were read, and so it is the whole argument's
 abbrev pub unread_step : ℕ → Step
-unread_step n = ToErr (whole 0) (bad_line n)
+unread_step n = ToErr (whole_step 0) (bad_line n)
 
 -- a conflict of two files, as a line with the labels of both packages
 abbrev pub conflict_step : (ℕ → List ℕ) → Conflict → Step
-conflict_step labels c = ToOut (whole 0) (conflict_line (labels c.first) (labels c.second) c)
+conflict_step labels c = ToOut (whole_step 0) (conflict_line (labels c.first) (labels c.second) c)
 
 -- first the packages that can't be read, by rising number, and then the conflicts
 abbrev pub report_steps : (ℕ → List ℕ) → List ℕ → List Conflict → List Step
@@ -38,7 +39,9 @@ report_steps labels numbers found = map unread_step numbers ++ map (conflict_ste
 
 -- a report on files has a line for each conflict and each Bad package, for which its one argument fails
 abbrev pub check_files : FinMap nat_cmp Package → Course
-check_files packages = before (together (map fails (report_steps (label packages) (bad packages) (conflicts packages)))) idle
+check_files packages =
+    before_others (together (map fails (report_steps (label_of_number packages) (bad packages) (conflicts packages))))
+    idle
 
 -- ---- the same of a report
 

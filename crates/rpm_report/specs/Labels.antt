@@ -1,5 +1,5 @@
--- The label of a package in a report: what a query by the format `%{NVRA}` prints of it on out. On it rest the courses of the reports, under
--- `plain` and `keyed` of the page (`rpm_tool`, Theorem.antt).
+-- The label of a package in a report: what a query by the format `%{NVRA}` prints of it on out. On it rest the courses
+-- of the reports, under `plain` and `keyed` of the page (`rpm_tool`, Theorem.antt).
 use Rattle.std.specs.Prelude.{ℕ, List, [], codes, Option, Some, None, Result, Ok, Err}
 use Rattle.std.specs.Ordering.{nat_cmp}
 use Rattle.std.specs.FinMap.{FinMap, get}
@@ -30,5 +30,5 @@ label_in n None = []
 label_in n (Some p) = out_bytes (step_of label_tree 0 (n, p))
 
 -- the label of a package, by its number
-abbrev pub label : FinMap nat_cmp Package → ℕ → List ℕ
-label packages n = label_in n (get packages n)
+abbrev pub label_of_number : FinMap nat_cmp Package → ℕ → List ℕ
+label_of_number packages n = label_in n (get packages n)

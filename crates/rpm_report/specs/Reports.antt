@@ -1,16 +1,17 @@
--- What the commands do that go over all packages of the database: courses of `plain` on the page (`rpm_tool`, Theorem.antt).
+-- What the commands do that go over all packages of the database: courses of `plain` on the page (`rpm_tool`,
+-- Theorem.antt).
 use Rattle.std.specs.Prelude.{ℕ, List, [], ◌∷◌, map, codes, decimal, Option, Some, None}
 use Rattle.std.specs.List.{concat}
 use Rattle.std.specs.FinMap.{entries}
 use Rattle.rpm_outside.specs.Files.{Units}
 use Rattle.rpm_pkgdb.specs.Store.{Store}
 use Rattle.rpm_db.specs.State.{Package, packages}
-use Rattle.rpm_db.specs.Database.{unindexed}
+use Rattle.rpm_db.specs.Database.{without_index}
 use Rattle.rpm_db.specs.declared.verify.Verdict.{Verdict}
 use Rattle.rpm_db.specs.declared.verify.Verdict.TheVariants.{Sound, BadHeader, BadChecksum, BadDigest}
 use Rattle.rpm_db.specs.Verdicts.{verdict}
 use Rattle.rpm_effects.specs.Steps.{bearer, ToOut, Course, idle}
-use Rattle.rpm_effects.specs.Portions.{Portion, nothing, fails, together, before}
+use Rattle.rpm_effects.specs.Portions.{Portion, nothing, fails, together, before_others}
 
 -- what verifying says of a package, as a line
 unfoldable pub verdict_line : ℕ → List ℕ → List ℕ
@@ -30,8 +31,8 @@ verdict_part n (Some BadDigest) = unsound n (codes "header digest differs")
 
 -- an entry has the verdict of its number
 abbrev pub entry_verdict : Units → Store → ℕ × Package → Portion
-entry_verdict file store e = verdict_part e.0 (verdict file (unindexed store) e.0)
+entry_verdict file store e = verdict_part e.0 (verdict file (without_index store) e.0)
 
 -- the verdicts of all packages, by rising number
 abbrev pub verify : Units → Store → Course
-verify file store = before (together (map (entry_verdict file store) (entries (packages file store)))) idle
+verify file store = before_others (together (map (entry_verdict file store) (entries (packages file store)))) idle

@@ -1,6 +1,7 @@
--- What the reports on requirements tell: those that no package meets, and an order in which packages could be installed. These are courses under
--- `keyed` of the page (`rpm_tool`, Theorem.antt).
-use Rattle.std.specs.Prelude.{◌≡◌, ℕ, ◌<◌, ◌==◌, ◌||◌, List, [], ◌∷◌, ◌++◌, map, take, length, codes, decimal, slice_get, slice_index_or, Contains, Bool, true}
+-- What the reports on requirements tell: those that no package meets, and an order in which packages could be
+-- installed. These are courses under `keyed` of the page (`rpm_tool`, Theorem.antt).
+use Rattle.std.specs.Prelude.{◌≡◌, ℕ, ◌<◌, ◌==◌, ◌||◌, List, [], ◌∷◌, ◌++◌, map, take, length, codes, decimal}
+use Rattle.std.specs.Prelude.{slice_get, slice_index_or, Contains, Bool, true}
 use Rattle.std.specs.Prelude.{false, if◌then◌else◌, Option, Some, None, Result, Ok, Err, is_ok}
 use Rattle.std.specs.List.{concat, flat_map}
 use Rattle.std.specs.Ordering.{nat_cmp}
@@ -8,25 +9,25 @@ use Rattle.std.specs.FinMap.{FinMap, entries, get}
 use Rattle.rpm_outside.specs.Files.{Units}
 use Rattle.rpm_header.specs.declared.form.HeaderFault.{HeaderFault}
 use Rattle.rpm_header.specs.Header.{Header, header}
-use Rattle.rpm_tags.specs.Wanted.{Needed}
+use Rattle.rpm_tags.specs.Wanted.{Need}
 use Rattle.rpm_version.specs.Range.{is_open}
 use Rattle.rpm_db.specs.State.{Package, Good, Bad}
 use Rattle.rpm_graph.specs.Networks.{Network}
-use Rattle.rpm_graph.specs.Orders.{IsNext, Lists}
+use Rattle.rpm_graph.specs.Orders.{IsNextClass, Lists}
 use Rattle.rpm_check.specs.declared.list.Unmet.{Unmet}
-use Rattle.rpm_check.specs.Unmet.{required, unmet}
+use Rattle.rpm_check.specs.Unmet.{requirements, unmet}
 use Rattle.rpm_check.specs.Edges.{graph_of}
 use Rattle.rpm_check.specs.declared.faults.CheckFault.{CheckFault}
 use Rattle.rpm_check.specs.declared.faults.CheckFault.TheVariants as check
 use Rattle.rpm_check.specs.Answers.{IsFaultOfSome}
-use Rattle.rpm_qfeval.specs.Numbers.{letters, depflags}
+use Rattle.rpm_qfeval.specs.Numbers.{bit_letters, depflags}
 use Rattle.rpm_effects.specs.declared.tally.Halt.{Halt}
 use Rattle.rpm_effects.specs.declared.tally.Halt.TheVariants as halt
 use Rattle.rpm_effects.specs.declared.answer.Why.{Why}
 use Rattle.rpm_effects.specs.declared.answer.Why.TheVariants as why
 use Rattle.rpm_effects.specs.Progress.{Outputs, Anywhere}
-use Rattle.rpm_effects.specs.Steps.{bearer, whole, Step, ToOut, Course, idle}
-use Rattle.rpm_effects.specs.Portions.{Portion, nothing, fails, together, before}
+use Rattle.rpm_effects.specs.Steps.{bearer, whole_step, Step, ToOut, Course, idle}
+use Rattle.rpm_effects.specs.Portions.{Portion, nothing, fails, together, before_others}
 use Rattle.rpm_print.specs.Printed.{bad_step}
 use Rattle.rpm_report.specs.Labels.{header_label}
 use Rattle.rpm_effects.specs.Answers.{PartIs, PartProgress}
@@ -46,12 +47,13 @@ package_text text (Some (Good bytes)) = read_text text (header bytes)
 package_text text others = []
 
 -- a number's package is read from these bytes
-abbrev pub IsRead : FinMap nat_cmp Package → ℕ → List ℕ → Type 0
-IsRead packages n bytes = (text : Header → List ℕ) → package_text text (get packages n) ≡ read_text text (header bytes)
+abbrev pub IsPackageRead : FinMap nat_cmp Package → ℕ → List ℕ → Type 0
+IsPackageRead packages n bytes = (text : Header → List ℕ)
+    → package_text text (get packages n) ≡ read_text text (header bytes)
 
 -- one part after another
-abbrev pub behind : Portion → Portion → Portion
-behind p q = record { steps = p.steps ++ q.steps; fails = p.fails || q.fails }
+abbrev pub portion_behind : Portion → Portion → Portion
+portion_behind p q = record { steps = p.steps ++ q.steps; fails = p.fails || q.fails }
 
 -- ---- packages that can't be read
 
@@ -73,20 +75,22 @@ bad_parts packages = together (map bad_part (entries packages))
 
 -- the comparison and the version, where there are both
 abbrev pub range_text : ℕ → List ℕ → List ℕ
-range_text flags version = if is_open flags version then [] else concat (codes " " ∷ letters depflags flags ∷ codes " " ∷ version ∷ [])
+range_text flags version = if is_open flags version then []
+    else concat (codes " " ∷ bit_letters depflags flags ∷ codes " " ∷ version ∷ [])
 
 -- a requirement that nothing meets, as a line after the package's label
-unfoldable pub unmet_line : List ℕ → Needed → List ℕ
-unmet_line label need = concat (label ∷ codes ": unsatisfied: " ∷ need.name ∷ range_text need.flags need.version ∷ codes "\n" ∷ [])
+unfoldable pub unmet_line : List ℕ → Need → List ℕ
+unmet_line label need =
+    concat (label ∷ codes ": unsatisfied: " ∷ need.name ∷ range_text need.flags need.version ∷ codes "\n" ∷ [])
 
 -- the line of a requirement, none where there is none at that place
-abbrev pub line_of : List ℕ → Option Needed → List ℕ
+abbrev pub line_of : List ℕ → Option Need → List ℕ
 line_of label None = []
 line_of label (Some need) = unmet_line label need
 
 -- a line tells the requirement at a place of a number's header
 abbrev pub unmet_text : ℕ → ℕ → Header → List ℕ
-unmet_text place n h = line_of (header_label n h) (slice_get (required h) place)
+unmet_text place n h = line_of (header_label n h) (slice_get (requirements h) place)
 
 -- a package's unmet requirements have a line each
 abbrev pub unmet_lines : List Unmet → ℕ → Header → List ℕ
@@ -102,11 +106,11 @@ unmet_part packages = record { steps = map (unmet_step packages) (unmet packages
 
 -- the packages that can't be read stand first
 abbrev pub unsatisfied_part : FinMap nat_cmp Package → Portion
-unsatisfied_part packages = behind (bad_parts packages) (unmet_part packages)
+unsatisfied_part packages = portion_behind (bad_parts packages) (unmet_part packages)
 
 -- what the report of unmet requirements prints
-abbrev pub unsatisfied : FinMap nat_cmp Package → Course
-unsatisfied packages = before (unsatisfied_part packages) idle
+abbrev pub unsatisfied_report : FinMap nat_cmp Package → Course
+unsatisfied_report packages = before_others (unsatisfied_part packages) idle
 
 -- ---- an order of installation
 
@@ -126,7 +130,7 @@ cycle_line count = concat (codes "cycle: " ∷ decimal count ∷ codes "\n" ∷ 
 abbrev pub class_steps : FinMap nat_cmp Package → List ℕ → List Step
 class_steps packages class =
     if length class == 1 then map (label_step packages []) class
-    else ToOut (whole 0) (cycle_line (length class)) ∷ map (label_step packages (codes "  ")) class
+    else ToOut (whole_step 0) (cycle_line (length class)) ∷ map (label_step packages (codes "  ")) class
 
 -- class by class; the argument doesn't fail for it
 abbrev pub classes_part : FinMap nat_cmp Package → List (List ℕ) → Portion
@@ -134,15 +138,15 @@ classes_part packages classes = record { steps = flat_map (class_steps packages)
 
 -- the bad packages, then the classes in their order
 abbrev pub order_part : FinMap nat_cmp Package → List (List ℕ) → Portion
-order_part packages classes = behind (bad_parts packages) (classes_part packages classes)
+order_part packages classes = portion_behind (bad_parts packages) (classes_part packages classes)
 
 -- what the report of the order of installation prints
 abbrev pub ordering : FinMap nat_cmp Package → List (List ℕ) → Course
-ordering packages classes = before (order_part packages classes) idle
+ordering packages classes = before_others (order_part packages classes) idle
 
 -- each class is the next one after those before it; where all are told, each number stands in one
 pub record IsListed (g : Network) (all_told : Bool) (classes : List (List ℕ)) : Type 0 where
-  pub each : (k : ℕ) → k < length classes → IsNext g (take k classes) (slice_index_or classes k [])
+  pub each : (k : ℕ) → k < length classes → IsNextClass g (take k classes) (slice_index_or classes k [])
   pub all : all_told ≡ true → (n : ℕ) → Contains g.numbers n → Lists classes n
 
 -- how far the classes were told

@@ -1,7 +1,7 @@
 //! `AnswersPlain` of the theorem: what is told of the paths that several packages own and that differ.
 
 ghost use Rattle.std.specs.Prelude.{◌≡◌, ◌≢◌, ◌+◌, ◌≤◌, [], ◌∷◌, map, false, IsTrue, Err, IfErr};
-ghost use Rattle.rpm_report.specs.Prelude.{check_files, conflict_step, cost_all, DiskFault, EndHands, Everything, fails, HaltHands, if_differs, is_foreign, is_of_opening, IsAskable, IsOfPrint, label_told, Looks, OutTakes, packages_in, PartIs, Pkg, pkg_read, PutsOut, reached_by, shown, together, told_steps, CommandProgress, whole};
+ghost use Rattle.rpm_report.specs.Prelude.{check_files, conflict_step, packages_cost, DiskFault, EndHands, Everything, fails, HaltHands, if_differs, is_foreign, is_of_opening, IsAskable, IsOfPrint, label_told, OnlyReads, OutTakes, packages_in, PartIs, Pkg, pkg_read, PutsOut, reached_by, shown_outputs, together, told_steps, CommandProgress, whole_step};
 
 use rpm_db::Db;
 use rpm_effects::{Halt, Why, put_out};
@@ -25,7 +25,7 @@ fn put_conflict<'a, O: Sink + Drop>(
     conflict: &'a Conflict,
 ) -> Result<bool, Halt>
     ensures part { OutTakes O.Sink (λ old new. PartIs (fails (conflict_step (label_told report.now) conflict.now)) result
-        old new (λ for. for ≡ whole 0)) out.old out.new }
+        old new (λ for. for ≡ whole_step 0)) out.old out.new }
     ensures puts { PutsOut O.Sink result out.old out.new }
 {
     let first = report.label(conflict.first());
@@ -58,8 +58,8 @@ fn tell_report<O: Sink + Drop, E: Sink + Drop>(
     out: &mut Buffered<O>,
     err: &mut Buffered<E>,
 ) -> Result<bool, Halt>
-    ensures part { PartIs (together (map fails (told_steps report.now))) result (shown O.Sink E.Sink out.old err.old)
-        (shown O.Sink E.Sink out.new err.new) (λ for. for ≡ whole 0) }
+    ensures part { PartIs (together (map fails (told_steps report.now))) result (shown_outputs O.Sink E.Sink out.old err.old)
+        (shown_outputs O.Sink E.Sink out.new err.new) (λ for. for ≡ whole_step 0) }
     ensures no_read { result ≢ Err Halt.DiskFault }
     ensures class { IfErr result IsOfPrint }
     ensures hands { HaltHands O.Sink E.Sink result out.old err.old out.new err.new }
@@ -86,11 +86,11 @@ pub fn check_files<D: Disk, O: Sink + Drop, E: Sink + Drop>(
 ) -> Why
     requires asked { IsAskable D.Disk disk.old db.now }
     ensures went { IsTrue D.tells → CommandProgress (check_files (packages_in D.Disk disk.old db.now)) result
-        (shown O.Sink E.Sink out.old err.old) (shown O.Sink E.Sink out.new err.new)
+        (shown_outputs O.Sink E.Sink out.old err.old) (shown_outputs O.Sink E.Sink out.new err.new)
         (λ for. pkg_read D.Disk disk.new ≤ pkg_read D.Disk disk.old + reached_by (Everything ∷ []) db.now for) }
     ensures done { is_foreign result ≡ false }
     ensures opened { is_of_opening result ≡ false }
-    ensures looks { Looks D.Disk Pkg (cost_all db.now) disk.old disk.new }
+    ensures looks { OnlyReads D.Disk Pkg (packages_cost db.now) disk.old disk.new }
     ensures disk { DiskFault D.Disk (result ≡ Why.DiskFault) disk.old disk.new }
     ensures hands { EndHands O.Sink E.Sink result out.old err.old out.new err.new }
 {

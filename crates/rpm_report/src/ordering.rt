@@ -1,7 +1,7 @@
 //! `AnswersKeyed` of the theorem: an order in which the packages could be installed.
 
 ghost use Rattle.std.specs.Prelude.{◌≡◌, ◌<◌, [], ◌∷◌, map, true, IsTrue, Err, IfErr};
-ghost use Rattle.rpm_report.specs.Prelude.{Anywhere, class_steps, DiskFault, flat_map, HaltHands, HasRows, IsAskable, IsOfPrint, label_step, OrderPartIs, OutTakes, packages_in, Peeks, PartProgress, shown, HaltsOfSome, TellsOut};
+ghost use Rattle.rpm_report.specs.Prelude.{Anywhere, class_steps, DiskFault, flat_map, HaltHands, HasKeptRows, IsAskable, IsOfPrint, label_step, OrderPartIs, OutTakes, packages_in, OnlyReadsIndexed, PartProgress, shown_outputs, HaltsOfSome, TellsOut};
 
 use crate::unreadable::{halt_of_check, read_into, tell_each_bad};
 use itoa::Buffer;
@@ -123,11 +123,11 @@ pub fn report_order<D: Disk, O: Sink + Drop, E: Sink + Drop>(
     err: &mut Buffered<E>,
 ) -> Result<bool, Halt>
     requires asked { IsAskable D.Disk disk.old db.now }
-    ensures went { IsTrue D.tells → HasRows D.Disk disk.old db.now
-        → OrderPartIs (packages_in D.Disk disk.old db.now) result (shown O.Sink E.Sink out.old err.old)
-        (shown O.Sink E.Sink out.new err.new) }
+    ensures went { IsTrue D.tells → HasKeptRows D.Disk disk.old db.now
+        → OrderPartIs (packages_in D.Disk disk.old db.now) result (shown_outputs O.Sink E.Sink out.old err.old)
+        (shown_outputs O.Sink E.Sink out.new err.new) }
     ensures broken { IsTrue D.tells → IfErr result (HaltsOfSome (D.files disk.old).idx) }
-    ensures looks { Peeks D.Disk true disk.old disk.new }
+    ensures looks { OnlyReadsIndexed D.Disk true disk.old disk.new }
     ensures disk { DiskFault D.Disk (result ≡ Err Halt.DiskFault) disk.old disk.new }
     ensures class { IfErr result IsOfPrint }
     ensures hands { HaltHands O.Sink E.Sink result out.old err.old out.new err.new }

@@ -3,7 +3,7 @@
 
 ghost use Rattle.std.specs.Prelude.{◌≡◌, map, IsTrue, IfOk};
 ghost use Rattle.std.specs.FinMap as finite;
-ghost use Rattle.rpm_report.specs.Prelude.{Anywhere, bad_at, bad_parts, ErrTakes, fails, IsAskable, IsOfPrint, IsRead, packages_in, PartIs, ReadsBy, halt_of_check, TellsErr};
+ghost use Rattle.rpm_report.specs.Prelude.{Anywhere, bad_at, bad_parts, ErrTakes, fails, IsAskable, IsOfPrint, IsPackageRead, packages_in, PartIs, ReadsBy, halt_of_check, TellsErr};
 
 use rpm_check::CheckFault;
 use rpm_db::{Db, GetFault};
@@ -34,7 +34,7 @@ pub fn read_into<D: Disk>(
     room: &mut Vec<u8>,
 ) -> Result<(), Halt>
     requires asked { IsAskable D.Disk disk.old db.now }
-    ensures told { IfOk result (λ _done. IsTrue D.tells → IsRead (packages_in D.Disk disk.old db.now) number room.new.items) }
+    ensures told { IfOk result (λ _done. IsTrue D.tells → IsPackageRead (packages_in D.Disk disk.old db.now) number room.new.items) }
     ensures reads { ReadsBy D.Disk result disk.old disk.new }
 {
     match db.read_in(disk, number, replace(room, Vec::new(alloc))) {

@@ -2,7 +2,7 @@
 
 ghost use Rattle.std.specs.Prelude.{◌≡◌, ◌==◌, ◌<◌, ◌≤◌, [], ◌++◌, drop, length, map, if◌then◌else◌, true, IsTrue, Err, IfOk, IfErr, OnOk, slice_get};
 ghost use Rattle.std.specs.List.{All, prefix_len};
-ghost use Rattle.rpm_report.specs.Prelude.{Anywhere, DiskFault, HaltHands, has, HasRows, header, is_open, IsAskable, IsOfPrint, line_of, needed_in, option_map, OutTakes, packages_in, PartIs, Peeks, range_text, PartProgress, read_text, required, shown, HaltsOfSome, TellsOut, unmet_lines, unmet_step, unsatisfied_part};
+ghost use Rattle.rpm_report.specs.Prelude.{Anywhere, DiskFault, HaltHands, has, HasKeptRows, header, is_open, IsAskable, IsOfPrint, line_of, needed_in, option_map, OutTakes, packages_in, PartIs, OnlyReadsIndexed, range_text, PartProgress, read_text, requirements, shown_outputs, HaltsOfSome, TellsOut, unmet_lines, unmet_step, unsatisfied_part};
 
 use crate::unreadable::{halt_of_check, read_into, tell_each_bad};
 use rpm_check::{Unmet, unmet};
@@ -69,7 +69,7 @@ struct NeedsLeft<'a> {
 
 /// All requirements of a header.
 fn all_needs<'a>(view: &View<'a>) -> NeedsLeft<'a>
-    ensures left { result.needs ≡ drop result.passed (required view.now) }
+    ensures left { result.needs ≡ drop result.passed (requirements view.now) }
     ensures passed { result.passed ≡ 0 }
 {
     NeedsLeft {
@@ -80,8 +80,8 @@ fn all_needs<'a>(view: &View<'a>) -> NeedsLeft<'a>
 
 /// Begins with all requirements of a header again, where one of this place was passed.
 fn rewind<'a>(view: &View<'a>, left: &mut NeedsLeft<'a>, place: usize)
-    requires left { left.old.needs ≡ drop left.old.passed (required view.now) }
-    ensures left { left.new.needs ≡ drop left.new.passed (required view.now) }
+    requires left { left.old.needs ≡ drop left.old.passed (requirements view.now) }
+    ensures left { left.new.needs ≡ drop left.new.passed (requirements view.now) }
     ensures reaches { left.new.passed ≤ place }
 {
     if place < left.passed {
@@ -92,9 +92,9 @@ fn rewind<'a>(view: &View<'a>, left: &mut NeedsLeft<'a>, place: usize)
 /// The requirement at a place of a header, if there is one. Goes on from the place that was asked for last, where this
 /// one stands behind it.
 fn needed_at<'a>(view: &View<'a>, left: &mut NeedsLeft<'a>, place: u32) -> Option<Dependency<'a>>
-    requires left { left.old.needs ≡ drop left.old.passed (required view.now) }
-    ensures value { option_map needed_in result ≡ slice_get (required view.now) place }
-    ensures left { left.new.needs ≡ drop left.new.passed (required view.now) }
+    requires left { left.old.needs ≡ drop left.old.passed (requirements view.now) }
+    ensures value { option_map needed_in result ≡ slice_get (requirements view.now) place }
+    ensures left { left.new.needs ≡ drop left.new.passed (requirements view.now) }
 {
     let place = place as usize;
     rewind(view, left, place);
@@ -112,9 +112,9 @@ fn push_unmet<'a>(
     label: &[u8],
     place: u32,
 ) -> Result<(), AllocError>
-    requires left { left.old.needs ≡ drop left.old.passed (required view.now) }
-    ensures text { OnOk result (text.new.items ≡ text.old.items ++ line_of label.now (slice_get (required view.now) place)) }
-    ensures left { left.new.needs ≡ drop left.new.passed (required view.now) }
+    requires left { left.old.needs ≡ drop left.old.passed (requirements view.now) }
+    ensures text { OnOk result (text.new.items ≡ text.old.items ++ line_of label.now (slice_get (requirements view.now) place)) }
+    ensures left { left.new.needs ≡ drop left.new.passed (requirements view.now) }
 {
     match needed_at(view, left, place) {
         Some(needed) => {
@@ -222,11 +222,11 @@ pub fn report_unmet<D: Disk, O: Sink + Drop, E: Sink + Drop>(
     err: &mut Buffered<E>,
 ) -> Result<bool, Halt>
     requires asked { IsAskable D.Disk disk.old db.now }
-    ensures went { IsTrue D.tells → HasRows D.Disk disk.old db.now
-        → PartIs (unsatisfied_part (packages_in D.Disk disk.old db.now)) result (shown O.Sink E.Sink out.old err.old)
-        (shown O.Sink E.Sink out.new err.new) Anywhere }
+    ensures went { IsTrue D.tells → HasKeptRows D.Disk disk.old db.now
+        → PartIs (unsatisfied_part (packages_in D.Disk disk.old db.now)) result (shown_outputs O.Sink E.Sink out.old err.old)
+        (shown_outputs O.Sink E.Sink out.new err.new) Anywhere }
     ensures broken { IsTrue D.tells → IfErr result (HaltsOfSome (D.files disk.old).idx) }
-    ensures looks { Peeks D.Disk true disk.old disk.new }
+    ensures looks { OnlyReadsIndexed D.Disk true disk.old disk.new }
     ensures disk { DiskFault D.Disk (result ≡ Err Halt.DiskFault) disk.old disk.new }
     ensures class { IfErr result IsOfPrint }
     ensures hands { HaltHands O.Sink E.Sink result out.old err.old out.new err.new }

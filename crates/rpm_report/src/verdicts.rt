@@ -1,7 +1,7 @@
 //! `AnswersPlain` of the theorem: what verifying says of all packages.
 
 ghost use Rattle.std.specs.Prelude.{◌≡◌, ◌≢◌, ◌+◌, ◌≤◌, [], ◌∷◌, true, false, IsTrue, Err, IfErr};
-ghost use Rattle.rpm_report.specs.Prelude.{bearer, cost, cost_all, DiskFault, Everything, Hand, holds, is_foreign, is_of_opening, IsAskable, IsOfPrint, Looks, OutTakes, PartIs, Pkg, pkg_read, PutsOut, reached_by, room, unsound, verdict, verdict_part, verify, CommandProgress};
+ghost use Rattle.rpm_report.specs.Prelude.{bearer, package_cost, packages_cost, DiskFault, Everything, Hand, held_bytes, is_foreign, is_of_opening, IsAskable, IsOfPrint, OnlyReads, OutTakes, PartIs, Pkg, pkg_read, PutsOut, reached_by, store_of, unsound, verdict, verdict_part, verify, CommandProgress};
 ghost use Rattle.rpm_db.specs.Database as database;
 
 use itoa::Buffer;
@@ -39,7 +39,7 @@ fn verify_one<D: Disk, O: Sink + Drop>(
     ensures went { IsTrue D.tells → OutTakes O.Sink (λ old new. PartIs
         (verdict_part number (verdict (D.files disk.old).pkg db.now number)) result old new
         (λ for. for ≡ bearer 0 number)) out.old out.new }
-    ensures looks { Looks D.Disk Pkg (cost number db.now) disk.old disk.new }
+    ensures looks { OnlyReads D.Disk Pkg (package_cost number db.now) disk.old disk.new }
     ensures class { IfErr result IsOfPrint }
     ensures no_err { result ≢ Err Halt.ErrFault }
     ensures disk { DiskFault D.Disk (result ≡ Err Halt.DiskFault) disk.old disk.new }
@@ -66,12 +66,12 @@ pub fn report<D: Disk, O: Sink + Drop>(
     out: &mut Buffered<O>,
 ) -> Why
     requires asked { IsAskable D.Disk disk.old db.now }
-    ensures went { IsTrue D.tells → OutTakes O.Sink (λ old new. CommandProgress (verify (D.files disk.old).pkg (room db.now)) result
+    ensures went { IsTrue D.tells → OutTakes O.Sink (λ old new. CommandProgress (verify (D.files disk.old).pkg (store_of db.now)) result
         old new (λ for. pkg_read D.Disk disk.new ≤ pkg_read D.Disk disk.old + reached_by (Everything ∷ []) db.now for))
         out.old out.new }
     ensures done { is_foreign result ≡ false }
     ensures opened { is_of_opening result ≡ false }
-    ensures looks { Looks D.Disk Pkg (cost_all db.now) disk.old disk.new }
+    ensures looks { OnlyReads D.Disk Pkg (packages_cost db.now) disk.old disk.new }
     ensures no_err { result ≢ Why.ErrFault }
     ensures disk { DiskFault D.Disk (result ≡ Why.DiskFault) disk.old disk.new }
     ensures out { Hand O.Sink (result ≡ Why.OutFault) out.old out.new }

@@ -2,8 +2,8 @@
 use Rattle.std.proofs.Common.{◌≡◌, ℕ, ◌+◌, ◌≤◌, Ok, Err, refl, ap, arith}
 use Rattle.std.specs.Prelude.{Result}
 use Rattle.rpm_outside.specs.declared.disk.Disk as disk
-use Rattle.rpm_select.proofs.Vocabulary.{AsksPackages, Database, DiskFault, Kept, looks_more, looks_then, PickFault, Pkg}
-use Rattle.rpm_outside.specs.Frame.{Looks}
+use Rattle.rpm_select.proofs.Vocabulary.{AsksPackages, Database, DiskFault, IsStoreKept, looks_more, looks_then, PickFault, Pkg}
+use Rattle.rpm_outside.specs.Frame.{OnlyReads}
 
 -- an answer of this type
 abbrev pub failed : (X : Type 0) → PickFault → Result X PickFault
@@ -14,7 +14,7 @@ fault_in X a b is = cc
 
 module _ {D : Type 0} (d : disk.Ghosts D) where
   -- an answer after some calls
-  pub asks_done : {X : Type 0} (m most : ℕ) (a b : D) (db : Database) (x : X) → m ≤ most → Kept d b db → Looks d Pkg m a b → d.faults a ≤ d.faults b
+  pub asks_done : {X : Type 0} (m most : ℕ) (a b : D) (db : Database) (x : X) → m ≤ most → IsStoreKept d b db → OnlyReads d Pkg m a b → d.faults a ≤ d.faults b
       → AsksPackages d most a b db (Ok x)
   asks_done m most a b db x le kept looks later = record {
     kept = kept;
@@ -24,8 +24,8 @@ module _ {D : Type 0} (d : disk.Ghosts D) where
   }
 
   module _ (trans : (a b c : D) → d.follows a b → d.follows b c → d.follows a c) (m n most : ℕ) (a b c : D) (db : Database) (le : m + n ≤ most)
-      (before : Looks d Pkg m a b) (later : d.faults a ≤ d.faults b) where
-    both : Looks d Pkg n b c → Looks d Pkg most a c
+      (before : OnlyReads d Pkg m a b) (later : d.faults a ≤ d.faults b) where
+    both : OnlyReads d Pkg n b c → OnlyReads d Pkg most a c
     both looks = looks_then d Pkg trans m n most a b c le before looks
 
     -- an answer after one more

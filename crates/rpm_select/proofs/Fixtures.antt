@@ -1,6 +1,6 @@
 -- The definitions, computed on small globs and labels: what they say doesn't come from the code.
 use Rattle.std.specs.Prelude.{◌≡◌, [], ◌∷◌, codes, Some, true, false, refl}
-use Rattle.rpm_select.proofs.Vocabulary.{glob, is_dash, is_dash_or_dot, names_in, piece_at, pieces_behind, with_name, without}
+use Rattle.rpm_select.proofs.Vocabulary.{glob, is_dash, is_dash_or_dot, names_in, piece_at, pieces_behind, with_name, without_bytes}
 
 ends : (glob (codes "*a") (codes "ba") ≡ true) × (glob (codes "*a") (codes "ab") ≡ false) × (glob (codes "a?c") (codes "abc") ≡ true)
     × (glob (codes "?") [] ≡ false)
@@ -17,11 +17,13 @@ selves : (glob (codes "[a") (codes "[a") ≡ true) × (glob (codes "[]") (codes 
 unfolding glob pieces_behind piece_at
 selves = (refl, refl, refl, refl, refl)
 
-six : with_name (without is_dash_or_dot (Some (codes "x"))) (Some (codes "n-m")) (without is_dash (Some (codes "1"))) (without is_dash (Some (codes "2")))
+six : with_name (without_bytes is_dash_or_dot (Some (codes "x"))) (Some (codes "n-m")) (without_bytes is_dash (Some (codes "1")))
+    (without_bytes is_dash (Some (codes "2")))
     ≡ codes "n-m" ∷ codes "n-m.x" ∷ codes "n-m-1" ∷ codes "n-m-1.x" ∷ codes "n-m-1-2" ∷ codes "n-m-1-2.x" ∷ []
 six = refl
 
-few : with_name (without is_dash_or_dot (Some (codes "x.y"))) (Some (codes "n")) (without is_dash (Some (codes "1-1"))) (without is_dash (Some (codes "2")))
+few : with_name (without_bytes is_dash_or_dot (Some (codes "x.y"))) (Some (codes "n")) (without_bytes is_dash (Some (codes "1-1")))
+    (without_bytes is_dash (Some (codes "2")))
     ≡ codes "n" ∷ []
 few = refl
 

@@ -1,7 +1,7 @@
 -- How a glob is gone through: only the last star is tried again.
 use Rattle.std.proofs.Common.{◌≡◌, ◌≢◌, ℕ, List, [], ◌∷◌, Bool, true, false, ◌&&◌, ◌||◌, Option, Some, None, refl, sym, ap, ◌∙◌, inl, inr}
 use Rattle.std.proofs.lemmas.Bool.{cases_Bool}
-use Rattle.rpm_select.proofs.Vocabulary.{Byte, Piece, Question, Set, stands_for, Star, takes}
+use Rattle.rpm_select.proofs.Vocabulary.{Byte, Piece, Question, Set, stands_for, Star, takes_byte}
 
 -- ---- what a star stands for
 
@@ -46,7 +46,7 @@ none_taken Question ps other = refl
 none_taken (Byte x) ps other = refl
 none_taken (Set turned members) ps other = refl
 
-one_taken : (p : Piece) (ps : List Piece) (b : ℕ) (text : List ℕ) → p ≢ Star → stands_for (p ∷ ps) (b ∷ text) ≡ (takes p b && stands_for ps text)
+one_taken : (p : Piece) (ps : List Piece) (b : ℕ) (text : List ℕ) → p ≢ Star → stands_for (p ∷ ps) (b ∷ text) ≡ (takes_byte p b && stands_for ps text)
 one_taken Star ps b text other = absurd (other refl)
 one_taken Question ps b text other = refl
 one_taken (Byte x) ps b text other = refl
@@ -63,11 +63,11 @@ behind_one : (p : Piece) (ps : List Piece) (b : ℕ) (text : List ℕ) → p ≢
     → stands_for (Star ∷ ps) text ≡ true
 behind_one p ps b [] other is =
     here_or_later (stands_for (p ∷ ps) (b ∷ [])) (stands_for (Star ∷ p ∷ ps) [])
-    (λ here. star_here ps [] (and_second (takes p b) (stands_for ps []) (sym (one_taken p ps b [] other) ∙ here)))
+    (λ here. star_here ps [] (and_second (takes_byte p b) (stands_for ps []) (sym (one_taken p ps b [] other) ∙ here)))
     (λ more. absurd (none_at_end p ps other more)) is
 behind_one p ps b (c ∷ text) other is =
     here_or_later (stands_for (p ∷ ps) (b ∷ c ∷ text)) (stands_for (Star ∷ p ∷ ps) (c ∷ text))
-    (λ here. star_here ps (c ∷ text) (and_second (takes p b) (stands_for ps (c ∷ text)) (sym (one_taken p ps b (c ∷ text) other) ∙ here)))
+    (λ here. star_here ps (c ∷ text) (and_second (takes_byte p b) (stands_for ps (c ∷ text)) (sym (one_taken p ps b (c ∷ text) other) ∙ here)))
     (λ more. star_longer ps c text (behind_one p ps c text other more)) is
 
 -- ---- the last star
@@ -106,7 +106,7 @@ starred r all ps text back is goes =
     }
 
 pub taken : (r : Bool) (all : List Piece) (p : Piece) (ps : List Piece) (whole : List ℕ) (b : ℕ) (text : List ℕ) (back : Option (List Piece × List ℕ))
-    → p ≢ Star → takes p b ≡ true → all ≡ p ∷ ps → whole ≡ b ∷ text → Goes r all whole back → Goes r ps text back
+    → p ≢ Star → takes_byte p b ≡ true → all ≡ p ∷ ps → whole ≡ b ∷ text → Goes r all whole back → Goes r ps text back
 taken r all p ps whole b text back other takes_it is cut goes =
     let here : stands_for all whole ≡ stands_for ps text = rw (is, cut) (one_taken p ps b text other ∙ ap (λ (x : Bool). x && stands_for ps text) takes_it) in
     record {

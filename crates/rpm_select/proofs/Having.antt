@@ -1,8 +1,8 @@
 -- Numbers that have rows of a key: of hits, of all packages, of one package.
 use Rattle.std.proofs.Common.{◌≡◌, ℕ, ◌+◌, ◌<◌, ◌&&◌, ◌||◌, ◌==◌, List, [], ◌∷◌, map, length, Bool, true, false, Option, Some, None, Result, Ok, Err, refl, sym, ap, ◌∙◌, subst}
 use Rattle.std.specs.Prelude.{zip}
-use Rattle.rpm_select.proofs.Vocabulary.{AreHits, AreWith, Bad, bytes_eq, code_of, flat_map, Good, has_key, has_key_in, has_row, Header, header, header_rows}
-use Rattle.rpm_select.proofs.Vocabulary.{HeaderFault, Hit, is_among, is_candidate, is_in, is_row_of, key_list, key_row, keys, keys_asked, Kind, kind_rows}
+use Rattle.rpm_select.proofs.Vocabulary.{AreHits, AreWith, Bad, bytes_eq, code_of, flat_map, Good, has_header_key, has_key_in, has_row, Header, header, header_rows}
+use Rattle.rpm_select.proofs.Vocabulary.{HeaderFault, Hit, is_text_among, is_candidate, is_in, is_row_of, key_list, key_row, keys, keys_asked, Kind, kind_rows}
 use Rattle.rpm_select.proofs.Vocabulary.{kinds, list_any, nat_cmp, Package, range_with_len, Row, row_of_hit, rows, rows_at, rows_read, Selection, times-rows}
 use Rattle.std.specs.FinMap as finite
 use Rattle.std.proofs.lemmas.Bool.{eq-eqb}
@@ -70,15 +70,15 @@ none_of false = refl
 
 -- the rows of a kind's keys, with their places
 kind_has : (c : ℕ) (k : Kind) (key : List ℕ) (n : ℕ) (xs : List (List ℕ)) (from : ℕ) (b : Bool) → (c == code_of k) ≡ b
-    → list_any (is_row_of c key n) (map (key_row n k) (zip xs (range_with_len from (length xs)))) ≡ (b && is_among key xs)
+    → list_any (is_row_of c key n) (map (key_row n k) (zip xs (range_with_len from (length xs)))) ≡ (b && is_text_among key xs)
 kind_has c k key n [] from b is = none_of b
 kind_has c k key n (x ∷ xs) from b is =
     let own : (n == n) ≡ true = eq-eqb n n refl in
     let rest = kind_has c k key n xs (from + 1) b is in
-    rw (is, own, rest) (spread b (bytes_eq key x) (is_among key xs))
+    rw (is, own, rest) (spread b (bytes_eq key x) (is_text_among key xs))
 
 own_kind : (k : Kind) (h : Header) (key : List ℕ)
-    → list_any (λ other. (code_of k == code_of other) && is_among key (key_list other h)) kinds ≡ is_among key (key_list k h)
+    → list_any (λ other. (code_of k == code_of other) && is_text_among key (key_list other h)) kinds ≡ is_text_among key (key_list k h)
 own_kind kind.Name h key = or_no _
 own_kind kind.Basenames h key = or_no _
 own_kind kind.Group h key = or_no _
@@ -96,17 +96,17 @@ none_asked n [] = refl
 none_asked n (key ∷ keys) = none_asked n keys
 
 -- a header has rows of a key exactly where the key is among its keys
-header_has : (h : Header) (n : ℕ) (k : Kind) (key : List ℕ) → has_row (header_rows n h) n (k, key) ≡ has_key h (k, key)
+header_has : (h : Header) (n : ℕ) (k : Kind) (key : List ℕ) → has_row (header_rows n h) n (k, key) ≡ has_header_key h (k, key)
 unfolding header_rows
 header_has h n k key =
     any_flat (is_row_of (code_of k) key n) (kind_rows n h) kinds
     ∙ any_same (λ other. list_any (is_row_of (code_of k) key n) (kind_rows n h other))
-    (λ other. (code_of k == code_of other) && is_among key (key_list other h))
+    (λ other. (code_of k == code_of other) && is_text_among key (key_list other h))
     (λ other. kind_has (code_of k) other key n (key_list other h) 0 (code_of k == code_of other) refl) kinds
     ∙ own_kind k h key
 
 read_has : (sel : Selection) (r : Result Header HeaderFault) (n : ℕ) → list_any (has_row (rows_read n r) n) (keys_asked sel) ≡ has_key_in sel r
-read_has sel (Ok h) n = any_same (has_row (header_rows n h) n) (has_key h) (λ key. header_has h n key.0 key.1) (keys_asked sel)
+read_has sel (Ok h) n = any_same (has_row (header_rows n h) n) (has_header_key h) (λ key. header_has h n key.0 key.1) (keys_asked sel)
 read_has sel (Err fault) n = none_asked n (keys_asked sel)
 
 -- a candidate, by its number

@@ -20,3 +20,5 @@ pub mod Serving
 pub mod Unclosed
 pub mod Unpicked
 pub mod Vocabulary
+pub mod Complete
+pub mod Cuts

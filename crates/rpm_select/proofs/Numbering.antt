@@ -2,7 +2,7 @@
 use Rattle.std.proofs.Common.{◌≡◌, ℕ, ◌+◌, ◌<◌, ◌≤◌, ◌||◌, ◌==◌, List, [], ◌∷◌, ◌++◌, map, take, length, Bool, sym, ap, ◌∙◌, append_assoc}
 use Rattle.std.proofs.lemmas.List.{take_more, take_all, map-append}
 use Rattle.std.proofs.lemmas.List.Folds.{list_any-append}
-use Rattle.rpm_select.proofs.Vocabulary.{Adds, AreHits, code_of, Hit, hit_at, is_in, Kind, Row}
+use Rattle.rpm_select.proofs.Vocabulary.{NumbersOfKey, AreHits, code_of, Hit, hit_at, is_in, Kind, Row}
 use Rattle.rpm_select.proofs.Having.{hits_have}
 
 pub number_more : (ns : List ℕ) (hits : List Hit) (i j : ℕ) → j ≡ i + 1 → i < length hits
@@ -19,6 +19,6 @@ all_numbers ns hits i end = ap (λ (xs : List Hit). ns ++ map (λ hit. hit.numbe
 
 -- numbers to which the hits of a key come
 pub hits_add : (k : Kind) (key : List ℕ) (rs : List Row) (hits : List Hit) (old new : List ℕ) → new ≡ old ++ map (λ hit. hit.number) hits
-    → AreHits (code_of k) key rs hits → Adds rs (k, key) old new
+    → AreHits (code_of k) key rs hits → NumbersOfKey rs (k, key) old new
 hits_add k key rs hits old new is are n =
     ap (is_in n) is ∙ list_any-append (λ m. m == n) old (map (λ hit. hit.number) hits) ∙ ap (λ (b : Bool). is_in n old || b) (hits_have k key rs hits n are)

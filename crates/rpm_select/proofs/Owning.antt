@@ -3,14 +3,14 @@ use Rattle.std.proofs.Common.{◌≡◌, ℕ, ◌+◌, ◌<◌, ◌≤◌, ◌==
 use Rattle.std.specs.Prelude.{if◌then◌else◌}
 use Rattle.std.proofs.lemmas.Bool.{cases_Bool}
 use Rattle.std.proofs.lemmas.Bool.Decides.{nat_tests}
-use Rattle.rpm_select.proofs.Vocabulary.{cost, Database, is_elsewhere, Number, ReadsOwn, Selection}
+use Rattle.rpm_select.proofs.Vocabulary.{package_cost, Database, is_elsewhere, Number, ReadsOwn, Selection}
 
 -- the blocks of m where the numbers up to k are passed
 abbrev pub owing : ℕ → ℕ → (ℕ → ℕ) → ℕ
 owing m k costs = if nat_le m k then costs m else 0
 
 abbrev pub ReadsOwnTo : ℕ → Selection → Database → ℕ → ℕ → Type 0
-ReadsOwnTo k sel db before now = (m : ℕ) → sel ≡ Number m → now ≤ before + owing m k (λ n. cost n db)
+ReadsOwnTo k sel db before now = (m : ℕ) → sel ≡ Number m → now ≤ before + owing m k (λ n. package_cost n db)
 
 no_less : (m k n : ℕ) (costs : ℕ → ℕ) → k < n → owing m k costs ≤ owing m n costs
 no_less m k n costs below = elim (cases_Bool (nat_le m k)) [
@@ -25,11 +25,11 @@ own n k costs below =
     (rw ahead refl, rw here refl)
 
 -- the next number is read, or isn't where another is asked for
-pub own_then : (sel : Selection) (db : Database) (k n before mid now : ℕ) → k < n → ReadsOwnTo k sel db before mid → now ≤ mid + cost n db
+pub own_then : (sel : Selection) (db : Database) (k n before mid now : ℕ) → k < n → ReadsOwnTo k sel db before mid → now ≤ mid + package_cost n db
     → (is_elsewhere sel n ≡ true → now ≡ mid)
     → ReadsOwnTo n sel db before now
 own_then sel db k n before mid now below so_far more unread = λ m is.
-    let costs : ℕ → ℕ = λ i. cost i db in
+    let costs : ℕ → ℕ = λ i. package_cost i db in
     elim (cases_Bool (n == m)) [
       | inl same ↦
           (let here : n ≡ m = grind (arith, nat_tests) in
@@ -48,10 +48,10 @@ at_most m k costs = elim (cases_Bool (nat_le m k)) [
 ]
 
 pub own_all : (sel : Selection) (db : Database) (k before now : ℕ) → ReadsOwnTo k sel db before now → ReadsOwn sel db before now
-own_all sel db k before now so_far = λ m is. omega (arith, so_far m is, at_most m k (λ i. cost i db))
+own_all sel db k before now so_far = λ m is. omega (arith, so_far m is, at_most m k (λ i. package_cost i db))
 
 -- the next number is the last that is read
-pub own_last : (sel : Selection) (db : Database) (k n before mid now : ℕ) → k < n → ReadsOwnTo k sel db before mid → now ≤ mid + cost n db
+pub own_last : (sel : Selection) (db : Database) (k n before mid now : ℕ) → k < n → ReadsOwnTo k sel db before mid → now ≤ mid + package_cost n db
     → (is_elsewhere sel n ≡ true → now ≡ mid)
     → ReadsOwn sel db before now
 own_last sel db k n before mid now below so_far more unread = own_all sel db n before now (own_then sel db k n before mid now below so_far more unread)

@@ -1,6 +1,6 @@
 -- Packages that are passed over, since they aren't picked.
 use Rattle.rpm_select.proofs.Vocabulary.{Database, entry_in, filter, is_picked, IsNext, nat_cmp, next_above, OneOf, Package, packages, Picked, picks_at}
-use Rattle.rpm_select.proofs.Vocabulary.{Reach, reaches, room, Selection, Serves, Units}
+use Rattle.rpm_select.proofs.Vocabulary.{Reach, reaches, store_of, Selection, Serves, Units}
 use Rattle.std.proofs.Common.{◌≡◌, ℕ, ◌+◌, ◌-◌, ◌<◌, ◌≤◌, ◌==◌, [], ◌∷◌, true, false, Option, Some, None, Ok, refl, sym, ap, ◌∙◌, subst, inl, inr, arith}
 use Rattle.std.specs.Prelude.{nat_le}
 use Rattle.std.specs.FinMap as finite
@@ -47,52 +47,52 @@ not_picked : (sel : Selection) (m : ℕ) (o : Option Package) (p : Package) → 
 not_picked sel m None p one is = absurd cc
 not_picked sel m (Some q) p one is = (let same : q ≡ p = cc in subst (λ (x : Package). is_picked sel (m, x) ≡ false) same one)
 
-module _ (r : Reach) (file : Units) (db : Database) (sel : Selection) (serves : Serves r (packages file (room db)) sel) where
+module _ (r : Reach) (file : Units) (db : Database) (sel : Selection) (serves : Serves r (packages file (store_of db)) sel) where
   -- the numbers between aren't in reach, and the next one isn't picked
-  pub passed_next : (k m : ℕ) → IsNext (reaches r db) k (Some m) → OneOf sel m (finite.get (packages file (room db)) m) (Ok None)
-      → left (packages file (room db)) sel k ≡ left (packages file (room db)) sel m
+  pub passed_next : (k m : ℕ) → IsNext (reaches r db) k (Some m) → OneOf sel m (finite.get (packages file (store_of db)) m) (Ok None)
+      → left (packages file (store_of db)) sel k ≡ left (packages file (store_of db)) sel m
   passed_next k m next one =
-      skip (packages file (room db)) sel k m (omega (arith, next.0)) (λ q p a b there. elim (cases_Bool (q == m)) [
+      skip (packages file (store_of db)) sel k m (omega (arith, next.0)) (λ q p a b there. elim (cases_Bool (q == m)) [
         | inl same ↦
             (let is : q ≡ m = grind (arith, nat_tests) in
             subst (λ (i : ℕ). is_picked sel (i, p) ≡ false) (sym is)
-            (not_picked sel m (finite.get (packages file (room db)) m) p one (ap (finite.get (packages file (room db))) (sym is) ∙ there)))
+            (not_picked sel m (finite.get (packages file (store_of db)) m) p one (ap (finite.get (packages file (store_of db))) (sym is) ∙ there)))
         | inr other ↦ unpicked r file db sel serves q p (next.2 q a (grind (arith, nat_tests))) there
       ])
 
   -- and the next one is
-  pub picked_next : (k m : ℕ) (picked : Picked) → IsNext (reaches r db) k (Some m) → Found (packages file (room db)) sel m picked
-      → left (packages file (room db)) sel k ≡ entry_in picked ∷ left (packages file (room db)) sel m
+  pub picked_next : (k m : ℕ) (picked : Picked) → IsNext (reaches r db) k (Some m) → Found (packages file (store_of db)) sel m picked
+      → left (packages file (store_of db)) sel k ≡ entry_in picked ∷ left (packages file (store_of db)) sel m
   picked_next k m picked next found =
-      skip (packages file (room db)) sel k (m - 1) (omega (arith, next.0))
+      skip (packages file (store_of db)) sel k (m - 1) (omega (arith, next.0))
       (λ q p a b there. unpicked r file db sel serves q p (next.2 q a (omega (arith, a, b))) there)
-      ∙ here (packages file (room db)) sel (m - 1) m found.value (omega (arith, next.0)) found.there found.takes
-      ∙ ap (λ (e : ℕ × Package). e ∷ left (packages file (room db)) sel m) (sym found.entry)
+      ∙ here (packages file (store_of db)) sel (m - 1) m found.value (omega (arith, next.0)) found.there found.takes
+      ∙ ap (λ (e : ℕ × Package). e ∷ left (packages file (store_of db)) sel m) (sym found.entry)
 
   -- the same where its package is what a selection picks
-  pub taken_next : (k m : ℕ) (o : Option Package) → IsNext (reaches r db) k (Some m) → finite.get (packages file (room db)) m ≡ o → true ≡ picks_at sel m o
-      → (p : Package) × (left (packages file (room db)) sel k ≡ (m, p) ∷ left (packages file (room db)) sel m)
+  pub taken_next : (k m : ℕ) (o : Option Package) → IsNext (reaches r db) k (Some m) → finite.get (packages file (store_of db)) m ≡ o → true ≡ picks_at sel m o
+      → (p : Package) × (left (packages file (store_of db)) sel k ≡ (m, p) ∷ left (packages file (store_of db)) sel m)
   taken_next k m None next there takes = absurd cc
   taken_next k m (Some p) next there takes = (
     p,
-    skip (packages file (room db)) sel k (m - 1) (omega (arith, next.0))
+    skip (packages file (store_of db)) sel k (m - 1) (omega (arith, next.0))
         (λ q v a b at. unpicked r file db sel serves q v (next.2 q a (omega (arith, a, b))) at)
-        ∙ here (packages file (room db)) sel (m - 1) m p (omega (arith, next.0)) there (sym takes),
+        ∙ here (packages file (store_of db)) sel (m - 1) m p (omega (arith, next.0)) there (sym takes),
   )
 
-  pub none_next : (k : ℕ) → IsNext (reaches r db) k None → left (packages file (room db)) sel k ≡ []
-  none_next k next = skip_all (packages file (room db)) sel k (λ q p a there. unpicked r file db sel serves q p (next q a) there)
+  pub none_next : (k : ℕ) → IsNext (reaches r db) k None → left (packages file (store_of db)) sel k ≡ []
+  none_next k next = skip_all (packages file (store_of db)) sel k (λ q p a there. unpicked r file db sel serves q p (next q a) there)
 
   -- the next one lies beyond
-  pub none_to : (n k m : ℕ) → IsNext (reaches r db) k (Some m) → k ≤ n → n < m → any_to n (left (packages file (room db)) sel k) ≡ false
+  pub none_to : (n k m : ℕ) → IsNext (reaches r db) k (Some m) → k ≤ n → n < m → any_to n (left (packages file (store_of db)) sel k) ≡ false
   none_to n k m next le beyond =
-      ap (any_to n) (skip (packages file (room db)) sel k n le (λ q p a b there. unpicked r file db sel serves q p (next.2 q a (omega (arith, b, beyond)))
+      ap (any_to n) (skip (packages file (store_of db)) sel k n le (λ q p a b there. unpicked r file db sel serves q p (next.2 q a (omega (arith, b, beyond)))
       there))
-      ∙ none_so_far (is_picked sel) n n (omega arith) (finite.entries (packages file (room db)))
+      ∙ none_so_far (is_picked sel) n n (omega arith) (finite.entries (packages file (store_of db)))
 
-  pub one_to : (n k m : ℕ) (picked : Picked) → IsNext (reaches r db) k (Some m) → Found (packages file (room db)) sel m picked → m ≤ n
-      → any_to n (left (packages file (room db)) sel k) ≡ true
+  pub one_to : (n k m : ℕ) (picked : Picked) → IsNext (reaches r db) k (Some m) → Found (packages file (store_of db)) sel m picked → m ≤ n
+      → any_to n (left (packages file (store_of db)) sel k) ≡ true
   one_to n k m picked next found within =
       let test : nat_le m n ≡ true = grind (arith, nat_tests) in
-      ap (any_to n) (picked_next k m picked next found) ∙ ap (λ (e : ℕ × Package). any_to n (e ∷ left (packages file (room db)) sel m)) found.entry
+      ap (any_to n) (picked_next k m picked next found) ∙ ap (λ (e : ℕ × Package). any_to n (e ∷ left (packages file (store_of db)) sel m)) found.entry
       ∙ rw test refl

@@ -2,7 +2,7 @@
 use Rattle.std.proofs.Common.{◌≡◌, ℕ, ◌==◌, Bool, true, false, [], ◌∷◌, Ok, Err, Result, refl, sym, ap, ◌∙◌}
 use Rattle.rpm_select.proofs.Vocabulary.{All, Bad, complete, Conflicts, Directory, Good, Group, has_keys, Header, header, HeaderFault, is_in, is_picked}
 use Rattle.rpm_select.proofs.Vocabulary.{Label, nat_cmp, Number, Obsoletes, or_left, Package, Path, Pattern, Provides, reach, Recommends, Requires, Selection}
-use Rattle.rpm_select.proofs.Vocabulary.{Serves, takes_header, takes_read, Tid, Trigger, unasked}
+use Rattle.rpm_select.proofs.Vocabulary.{Serves, takes_header, takes_read, Tid, Trigger, unindexed_reach}
 use Rattle.std.specs.FinMap as finite
 use Rattle.std.proofs.lemmas.Bool.{eqb-true, eq-eqb}
 use Rattle.rpm_select.proofs.Having.{is_candidate_at}
@@ -17,7 +17,7 @@ number_taken : (m n : ℕ) (p : Package) → is_picked (Number m) (n, p) ≡ tru
 number_taken m n (Good bytes) takes = or_left (m == n) false (eq-eqb m n (sym (eqb-true n m (header_number m n (header bytes) takes))))
 number_taken m n Bad takes = or_left (m == n) false (eq-eqb m n (sym (eqb-true n m takes)))
 
-pub unasked_serves : (packages : finite.FinMap nat_cmp Package) (sel : Selection) → Serves (unasked sel) packages sel
+pub unasked_serves : (packages : finite.FinMap nat_cmp Package) (sel : Selection) → Serves (unindexed_reach sel) packages sel
 unasked_serves packages (Number m) = λ n p there takes. number_taken m n p takes
 unasked_serves packages All = tt
 unasked_serves packages (Pattern x) = tt

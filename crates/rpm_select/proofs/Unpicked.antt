@@ -1,6 +1,6 @@
 -- A package out of reach is not picked.
 use Rattle.rpm_select.proofs.Vocabulary.{above, below_all, both_true, Database, eq_by_cmp, Everything, filter, is_picked, is_there, nat_cmp, none_below}
-use Rattle.rpm_select.proofs.Vocabulary.{Package, packages, Reach, reaches, room, Selection, Serves, These, Units, unsigned_tied}
+use Rattle.rpm_select.proofs.Vocabulary.{Package, packages, Reach, reaches, store_of, Selection, Serves, These, Units, unsigned_tied}
 use Rattle.std.proofs.Common.{◌≡◌, ℕ, ◌<◌, ◌≤◌, List, [], ◌∷◌, Bool, true, false, Some, None, is_some, refl, sym, ap, ◌∙◌, inl, inr, arith, nat_lt}
 use Rattle.std.specs.Prelude.{T}
 use Rattle.std.specs.FinMap as finite
@@ -57,8 +57,8 @@ none_in P k (e ∷ es) t none =
     ]
 
 -- a package out of reach isn't picked
-pub unpicked : (r : Reach) (file : Units) (db : Database) (sel : Selection) → Serves r (packages file (room db)) sel → (q : ℕ) (p : Package)
-    → reaches r db q ≡ false → finite.get (packages file (room db)) q ≡ Some p → is_picked sel (q, p) ≡ false
+pub unpicked : (r : Reach) (file : Units) (db : Database) (sel : Selection) → Serves r (packages file (store_of db)) sel → (q : ℕ) (p : Package)
+    → reaches r db q ≡ false → finite.get (packages file (store_of db)) q ≡ Some p → is_picked sel (q, p) ≡ false
 unpicked Everything file db sel serves q p out there =
     (let both : true ≡ false = sym (ap is_some there) ∙ is_there file db q ∙ out in absurd cc)
 unpicked (These ns) file db sel serves q p out there = elim (cases_Bool (is_picked sel (q, p))) [

@@ -1,11 +1,12 @@
 -- The words of proofs, from one place.
-pub use Rattle.rpm_db.specs.Above.{both_true, is_below, next_above, none_below}
+pub use Rattle.rpm_db.specs.laws.Above.{both_true, is_below, next_above, none_below}
 pub use Rattle.rpm_db.specs.Answers.{key_chain}
-pub use Rattle.rpm_db.specs.Database.{cost, cost_all, cost_to, Database, is_indexed, IsNext, Keeps, KeepsIndex}
-pub use Rattle.rpm_db.specs.Frame.{Kept, room}
+pub use Rattle.rpm_db.specs.Database.{package_cost, packages_cost, packages_cost_to, Database, is_indexed, IsNext, Keeps, KeepsIndex}
+pub use Rattle.rpm_db.specs.Frame.{IsStoreKept}
+pub use Rattle.rpm_db.specs.Database.{store_of}
 pub use Rattle.rpm_db.specs.Lawful.{HasRows}
-pub use Rattle.rpm_db.specs.PackageLaws.{cost_more, cost_some, cost_up, is_there}
-pub use Rattle.rpm_db.specs.RowLaws.{times-rows}
+pub use Rattle.rpm_db.specs.laws.PackageLaws.{cost_more, cost_some, cost_up, is_there}
+pub use Rattle.rpm_db.specs.laws.RowLaws.{times-rows}
 pub use Rattle.rpm_db.specs.Rows.{key_row, kind_rows, kinds, rows, rows_at, rows_read}
 unfoldable pub use Rattle.rpm_db.specs.Rows.{header_rows}
 pub use Rattle.rpm_db.specs.State.{above, Bad, Good, Package, packages, read_as}
@@ -17,20 +18,21 @@ pub use Rattle.rpm_hindex.specs.Rows.{Row, same_row}
 unfoldable pub use Rattle.rpm_hindex.specs.Rows.{times}
 pub use Rattle.rpm_hindex.specs.declared.hits.Hit.{Hit}
 pub use Rattle.rpm_outside.specs.Files.{Files, Units}
-pub use Rattle.rpm_outside.specs.Looks.{Looks, LooksAt}
+pub use Rattle.rpm_outside.specs.Looks.{OnlyReads, OnlyReadsFile}
 pub use Rattle.rpm_outside.specs.declared.disk.File.TheVariants.{Idx, Pkg}
-pub use Rattle.rpm_outside.specs.inner.Looking.{looks_more, looks_none, looks_then}
-pub use Rattle.rpm_select.specs.Candidates.{cut, has_key, has_key_in, has_keys, is_candidate, keys_asked, names_in}
+pub use Rattle.rpm_outside.specs.laws.Looking.{looks_more, looks_none, looks_then}
+pub use Rattle.rpm_select.specs.Candidates.{cut_text, has_header_key, has_key_in, has_keys, is_candidate, keys_asked, names_in}
 unfoldable pub use Rattle.rpm_select.specs.Candidates.{candidates}
 pub use Rattle.rpm_select.specs.Frame.{AsksPackages}
-pub use Rattle.rpm_select.specs.Glob.{Byte, is_close, is_member, Piece, pieces, Question, Set, stands_for, Star, takes, Written}
+pub use Rattle.rpm_select.specs.Glob.{Byte, is_close, is_member, Piece, pieces, Question, Set, stands_for, Star, takes_byte, Written}
 unfoldable pub use Rattle.rpm_select.specs.Glob.{glob, piece_at, pieces_behind}
-pub use Rattle.rpm_select.specs.Labels.{is_dash, is_dash_or_dot, with_name, without}
+pub use Rattle.rpm_version.specs.Evr.{is_dash}
+pub use Rattle.rpm_select.specs.Labels.{is_dash_or_dot, with_name, without_bytes}
 pub use Rattle.rpm_select.specs.Picks.{entry_in, NextIs, NextNumberIs, number_in, package_in, ReadsOwn}
-pub use Rattle.rpm_select.specs.Reach.{asks, Everything, HasChain, is_in, IsFaultOfOne, keys_cost, Reach, reach, reach_all, reach_to, reaches, Serves, These}
-pub use Rattle.rpm_select.specs.Reach.{unasked}
-pub use Rattle.rpm_select.specs.Recents.{has_number, IsHeld, IsOf, picks_at, Recalls}
-pub use Rattle.rpm_select.specs.Selections.{has_any, is_among, is_elsewhere, is_picked, meets, takes_read}
+pub use Rattle.rpm_select.specs.Reach.{asks_index, Everything, HasChain, is_in, IsFaultOfOne, keys_cost, Reach, reach, reach_all, reach_to, reaches, Serves, These}
+pub use Rattle.rpm_select.specs.Reach.{unindexed_reach}
+pub use Rattle.rpm_select.specs.Recents.{has_recent_number, IsHeld, IsOf, picks_at, Recalls}
+pub use Rattle.rpm_select.specs.Selections.{has_any, is_text_among, is_elsewhere, is_picked, meets_capability, takes_read}
 unfoldable pub use Rattle.rpm_select.specs.Selections.{picks, takes_header}
 pub use Rattle.rpm_select.specs.declared.picked.PickFault.{PickFault}
 pub use Rattle.rpm_select.specs.declared.picked.PickFault.TheVariants.{DiskFault}
@@ -39,15 +41,15 @@ pub use Rattle.rpm_select.specs.declared.recent.Recent.{Recent}
 pub use Rattle.rpm_select.specs.declared.selection.Selection.{Selection}
 pub use Rattle.rpm_select.specs.declared.selection.Selection.TheVariants.{All, Conflicts, Directory, Group, Label, Number, Obsoletes, Path, Pattern, Provides}
 pub use Rattle.rpm_select.specs.declared.selection.Selection.TheVariants.{Recommends, Requires, Tid, Trigger}
-pub use Rattle.rpm_select.specs.inner.Among.{among, not_among}
-pub use Rattle.rpm_select.specs.inner.Asking.{Adds, AreWith, has_row, is_byte, is_row_of}
-pub use Rattle.rpm_select.specs.inner.Complete.{complete}
-pub use Rattle.rpm_select.specs.inner.Costing.{reach_more, reach_some, reach_up}
-pub use Rattle.rpm_select.specs.inner.Keyed.{or_cases, or_left, or_right}
+pub use Rattle.rpm_select.specs.laws.Among.{among, not_among}
+pub use Rattle.rpm_select.specs.inner.Asking.{NumbersOfKey, AreWith, has_row, is_byte, is_row_of}
+pub use Rattle.rpm_select.proofs.Complete.{complete}
+pub use Rattle.rpm_select.specs.laws.Costing.{reach_more, reach_some, reach_up}
+pub use Rattle.rpm_select.specs.laws.Keyed.{or_cases, or_left, or_right}
 pub use Rattle.rpm_select.specs.inner.Members.{first_has, first_len}
 pub use Rattle.rpm_select.specs.inner.Pieces.{written_in}
 pub use Rattle.rpm_select.specs.inner.Reaching.{reach_of}
-pub use Rattle.rpm_select.specs.inner.Rising.{AreAbove, commute, Rises, rises, same_members}
+pub use Rattle.rpm_select.specs.laws.Rising.{AreAbove, commute, Rises, rises, same_members}
 pub use Rattle.rpm_select.specs.inner.Single.{OneIs, OneOf}
 pub use Rattle.rpm_select.specs.inner.Unclosed.{IsUnclosed}
 pub use Rattle.rpm_tags.specs.Keys.{key_list, keys}

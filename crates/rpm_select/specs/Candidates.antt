@@ -1,5 +1,6 @@
 -- The keys by which an index is asked for a selection, and the packages that have one of them.
-use Rattle.std.specs.Prelude.{ℕ, List, [], ◌∷◌, ◌++◌, map, filter, Bool, true, false, ◌==◌, if◌then◌else◌, slice_index, Option, Some, None, Result, Ok, Err}
+use Rattle.std.specs.Prelude.{ℕ, List, [], ◌∷◌, ◌++◌, map, filter, Bool, true, false, ◌==◌, if◌then◌else◌, slice_index}
+use Rattle.std.specs.Prelude.{Option, Some, None, Result, Ok, Err}
 use Rattle.std.specs.List.{list_any, before_last}
 use Rattle.std.specs.Option.{option_and_then}
 use Rattle.std.specs.Ordering.{nat_cmp}
@@ -12,26 +13,29 @@ use Rattle.rpm_tags.specs.Keys.{key_list, number_key}
 use Rattle.rpm_tags.specs.Wanted.{base_name}
 use Rattle.rpm_db.specs.State.{Package, Good, Bad}
 use Rattle.rpm_select.specs.declared.selection.Selection.{Selection}
-use Rattle.rpm_select.specs.declared.selection.Selection.TheVariants.{All, Pattern, Number, Label, Path, Group, Provides, Requires, Conflicts, Obsoletes, Trigger, Directory, Tid, Recommends}
-use Rattle.rpm_select.specs.Labels.{is_dash}
-use Rattle.rpm_select.specs.Selections.{is_among}
+use Rattle.rpm_select.specs.declared.selection.Selection.TheVariants.{All, Pattern, Number, Label, Path, Group}
+use Rattle.rpm_select.specs.declared.selection.Selection.TheVariants.{Provides, Requires, Conflicts, Obsoletes, Trigger}
+use Rattle.rpm_select.specs.declared.selection.Selection.TheVariants.{Directory, Tid, Recommends}
+use Rattle.rpm_version.specs.Evr.{is_dash}
+use Rattle.rpm_select.specs.Selections.{is_text_among}
 
 -- the byte of .
 abbrev pub is_dot : ℕ → Bool
 is_dot b = b == 46
 
 -- a text cut before its last such byte; none where it has no such byte
-abbrev pub cut : (ℕ → Bool) → List ℕ → Option (List ℕ)
-cut is_end text = if list_any is_end text then Some (before_last is_end text) else None
+abbrev pub cut_text : (ℕ → Bool) → List ℕ → Option (List ℕ)
+cut_text is_end text = if list_any is_end text then Some (before_last is_end text) else None
 
 -- the text of an option, or nothing
-abbrev pub one : Option (List ℕ) → List (List ℕ)
-one None = []
-one (Some text) = text ∷ []
+abbrev pub one_candidate : Option (List ℕ) → List (List ℕ)
+one_candidate None = []
+one_candidate (Some text) = text ∷ []
 
 -- the names that a label can begin with
 abbrev pub names_in : List ℕ → List (List ℕ)
-names_in x = x ∷ one (cut is_dot x) ++ one (cut is_dash x) ++ one (option_and_then (cut is_dash) (cut is_dash x))
+names_in x = x ∷ one_candidate (cut_text is_dot x) ++ one_candidate (cut_text is_dash x)
+    ++ one_candidate (option_and_then (cut_text is_dash) (cut_text is_dash x))
 
 -- a capability that can be a path is also looked for among the names of files
 abbrev pub path_keys : List ℕ → List (Kind × List ℕ)
@@ -60,12 +64,12 @@ keys_asked (Recommends c) = (kind.Recommendname, c.name) ∷ []
 keys_asked others = []
 
 -- a header has this key of this kind
-abbrev pub has_key : Header → Kind × List ℕ → Bool
-has_key h (k, key) = is_among key (key_list k h)
+abbrev pub has_header_key : Header → Kind × List ℕ → Bool
+has_header_key h (k, key) = is_text_among key (key_list k h)
 
 -- a header that can be read has one of the keys of a selection
 abbrev pub has_key_in : Selection → Result Header HeaderFault → Bool
-has_key_in sel (Ok h) = list_any (has_key h) (keys_asked sel)
+has_key_in sel (Ok h) = list_any (has_header_key h) (keys_asked sel)
 has_key_in sel (Err fault) = false
 
 -- a package that can be read has one of them

@@ -1,5 +1,6 @@
 -- The texts that a glob matches.
-use Rattle.std.specs.Prelude.{ℕ, suc, zero, ◌+◌, ◌-◌, List, [], ◌∷◌, take, drop, Bool, true, false, not, ◌&&◌, ◌||◌, ◌==◌, nat_le, if◌then◌else◌, Option, Some, None}
+use Rattle.std.specs.Prelude.{ℕ, suc, zero, ◌+◌, ◌-◌, List, [], ◌∷◌, take, drop, Bool, true, false, not, ◌&&◌, ◌||◌}
+use Rattle.std.specs.Prelude.{◌==◌, nat_le, if◌then◌else◌, Option, Some, None}
 use Rattle.std.specs.List.{position}
 use Rattle.std.specs.Option.{option_map}
 
@@ -22,11 +23,11 @@ is_member b (x ∷ dash ∷ y ∷ members) =
     else b == x || is_member b (dash ∷ y ∷ members)
 
 -- a piece stands for this one byte
-abbrev pub takes : Piece → ℕ → Bool
-takes Star b = false
-takes Question b = true
-takes (Byte x) b = b == x
-takes (Set is_turned members) b = if is_turned then not (is_member b members) else is_member b members
+abbrev pub takes_byte : Piece → ℕ → Bool
+takes_byte Star b = false
+takes_byte Question b = true
+takes_byte (Byte x) b = b == x
+takes_byte (Set is_turned members) b = if is_turned then not (is_member b members) else is_member b members
 
 -- the pieces stand for the text, piece by piece
 abbrev pub stands_for : List Piece → List ℕ → Bool
@@ -35,7 +36,7 @@ stands_for [] (b ∷ text) = false
 stands_for (Star ∷ pieces) [] = stands_for pieces []
 stands_for (Star ∷ pieces) (b ∷ text) = stands_for pieces (b ∷ text) || stands_for (Star ∷ pieces) text
 stands_for (piece ∷ pieces) [] = false
-stands_for (piece ∷ pieces) (b ∷ text) = takes piece b && stands_for pieces text
+stands_for (piece ∷ pieces) (b ∷ text) = takes_byte piece b && stands_for pieces text
 
 -- ---- how a glob is written
 
@@ -63,31 +64,31 @@ pub record Written : Type 0 where
   pub size : ℕ
 
 -- a piece and how many bytes write it
-abbrev pub written : Piece → ℕ → Written
-written piece size = record { piece = piece; size = size }
+abbrev pub written_piece : Piece → ℕ → Written
+written_piece piece size = record { piece = piece; size = size }
 
 -- after a \ stands a byte for itself; at the end it is itself
-abbrev pub escaped : List ℕ → Written
-escaped [] = written (Byte 92) 1
-escaped (b ∷ rest) = written (Byte b) 2
+abbrev pub escaped_piece : List ℕ → Written
+escaped_piece [] = written_piece (Byte 92) 1
+escaped_piece (b ∷ rest) = written_piece (Byte b) 2
 
 -- after a [; without an end it is itself
 abbrev pub set_of : Bool → List ℕ → Option ℕ → Written
-set_of turned members None = written (Byte 91) 1
-set_of turned members (Some n) = written (Set turned (take n members)) (n + (if turned then 3 else 2))
+set_of turned members None = written_piece (Byte 91) 1
+set_of turned members (Some n) = written_piece (Set turned (take n members)) (n + (if turned then 3 else 2))
 
 -- the set that begins after a [
-abbrev pub bracketed : List ℕ → Written
-bracketed rest = set_of (is_turned rest) (behind_turn rest) (member_count (behind_turn rest))
+abbrev pub bracketed_set : List ℕ → Written
+bracketed_set rest = set_of (is_turned rest) (behind_turn rest) (member_count (behind_turn rest))
 
 -- the piece that a byte begins, given what follows it
 unfoldable pub piece_at : ℕ → List ℕ → Written
 piece_at b rest =
-    if b == 42 then written Star 1
-    else if b == 63 then written Question 1
-    else if b == 92 then escaped rest
-    else if b == 91 then bracketed rest
-    else written (Byte b) 1
+    if b == 42 then written_piece Star 1
+    else if b == 63 then written_piece Question 1
+    else if b == 92 then escaped_piece rest
+    else if b == 91 then bracketed_set rest
+    else written_piece (Byte b) 1
 
 -- the pieces of a glob, after so many bytes
 unfoldable pub pieces_behind : ℕ → List ℕ → List Piece

@@ -16,9 +16,9 @@ abbrev pub is_dash_or_dot : ℕ → Bool
 is_dash_or_dot b = b == 45 || b == 46
 
 -- a text without such bytes
-abbrev pub without : (ℕ → Bool) → Option (List ℕ) → Option (List ℕ)
-without is_in None = None
-without is_in (Some text) = if list_any is_in text then None else Some text
+abbrev pub without_bytes : (ℕ → Bool) → Option (List ℕ) → Option (List ℕ)
+without_bytes is_in None = None
+without_bytes is_in (Some text) = if list_any is_in text then None else Some text
 
 -- N and N.A of a name N; a dot is 46, and a dash 45
 abbrev pub with_arch : Option (List ℕ) → List ℕ → List (List ℕ)
@@ -44,8 +44,9 @@ with_name arch (Some name) version release = with_arch arch name ++ with_version
 -- N, N.A, N-V, N-V.A, N-V-R and N-V-R.A; a version, a release and an architecture have no dash, and the last no dot
 unfoldable pub labels : Header → List (List ℕ)
 labels h =
-    with_name (without is_dash_or_dot (first_text h ARCH)) (first_text h NAME) (without is_dash (first_text h VERSION))
-    (without is_dash (first_text h RELEASE))
+    with_name (without_bytes is_dash_or_dot (first_text h ARCH)) (first_text h NAME)
+    (without_bytes is_dash (first_text h VERSION))
+    (without_bytes is_dash (first_text h RELEASE))
 
 -- a glob, or a text, is one that a label is picked by
 abbrev pub matches : Bool → List ℕ → List ℕ → Bool

@@ -3,9 +3,10 @@ pub mod Frame
 pub mod Glob
 pub mod Labels
 pub mod Picks
+pub mod Prelude
 pub mod Providing
 pub mod Reach
 pub mod Recents
 pub mod Selections
 pub mod inner
-pub mod Prelude
+pub mod laws

@@ -1,9 +1,10 @@
 -- What a picker answers.
-use Rattle.std.specs.Prelude.{◌≡◌, ℕ, ◌+◌, ◌-◌, ◌≤◌, List, [], ◌∷◌, Bool, true, false, nat_le, Option, Some, None, Result, Ok, Err}
+use Rattle.std.specs.Prelude.{◌≡◌, ℕ, ◌+◌, ◌-◌, ◌≤◌, List, [], ◌∷◌, Bool, true, false, nat_le, Option, Some, None}
+use Rattle.std.specs.Prelude.{Result, Ok, Err}
 use Rattle.std.specs.List.{list_any}
 use Rattle.rpm_db.specs.State as state
 use Rattle.rpm_db.specs.State.{Package}
-use Rattle.rpm_db.specs.Database.{Database, cost, cost_to, cost_all}
+use Rattle.rpm_db.specs.Database.{Database, package_cost, packages_cost_to, packages_cost}
 use Rattle.rpm_select.specs.declared.picked.Picked.{Picked}
 use Rattle.rpm_select.specs.declared.picked.Picked.TheVariants.{Good, Bad}
 use Rattle.rpm_select.specs.declared.picked.PickFault.{PickFault}
@@ -45,17 +46,17 @@ AnyIs picks n (Err fault) = Unit {0}
 
 -- the blocks of the numbers above n, up to the one that is given
 abbrev pub cost_after : ℕ → Database → Result (Option Picked) PickFault → ℕ
-cost_after n db (Ok (Some picked)) = cost_to (number_in picked) db - cost_to n db
-cost_after n db _ = cost_all db - cost_to n db
+cost_after n db (Ok (Some picked)) = packages_cost_to (number_in picked) db - packages_cost_to n db
+cost_after n db _ = packages_cost db - packages_cost_to n db
 
 -- the blocks of the numbers above n, up to the one whose number alone is given
 abbrev pub cost_next : ℕ → Database → Result (Option ℕ) PickFault → ℕ
-cost_next n db (Ok (Some m)) = cost_to m db - cost_to n db
-cost_next n db _ = cost_all db - cost_to n db
+cost_next n db (Ok (Some m)) = packages_cost_to m db - packages_cost_to n db
+cost_next n db _ = packages_cost db - packages_cost_to n db
 
 -- where a number is asked for, the blocks of that number alone
 abbrev pub ReadsOwn : Selection → Database → ℕ → ℕ → Type 0
-ReadsOwn sel db before now = (m : ℕ) → sel ≡ Number m → now ≤ before + cost m db
+ReadsOwn sel db before now = (m : ℕ) → sel ≡ Number m → now ≤ before + package_cost m db
 
 -- an index is said to be broken
 abbrev pub is_of_index : PickFault → Bool

@@ -1,6 +1,7 @@
 -- The packages that a picker goes over, and what reading them takes.
-use Rattle.rpm_db.specs.Frame.{room}
-use Rattle.std.specs.Prelude.{◌≡◌, ◌⊎◌, ℕ, ◌+◌, ◌-◌, ◌*◌, ◌≤◌, IsOk, List, [], ◌∷◌, map, filter, Bool, true, ◌&&◌, ◌==◌, nat_le, if◌then◌else◌, Option, Some, Result, Ok, Err}
+use Rattle.rpm_db.specs.Database.{store_of}
+use Rattle.std.specs.Prelude.{◌≡◌, ◌⊎◌, ℕ, ◌+◌, ◌-◌, ◌*◌, ◌≤◌, IsOk, List, [], ◌∷◌, map, filter, Bool, true, ◌&&◌, ◌==◌}
+use Rattle.std.specs.Prelude.{nat_le, if◌then◌else◌, Option, Some, Result, Ok, Err}
 use Rattle.std.specs.List.{list_any, sum_by, AllByRecursion}
 use Rattle.std.specs.Ordering.{nat_cmp}
 use Rattle.std.specs.FinMap as finite
@@ -9,7 +10,7 @@ use Rattle.rpm_tags.specs.declared.kind.Kind.{Kind}
 use Rattle.rpm_tags.specs.Kinds.{code_of}
 use Rattle.rpm_hindex.specs.Index.{units_at}
 use Rattle.rpm_db.specs.Answers.{key_chain}
-use Rattle.rpm_db.specs.Database.{Database, is_indexed, holds, cost, cost_to, cost_all}
+use Rattle.rpm_db.specs.Database.{Database, is_indexed, holds, package_cost, packages_cost_to, packages_cost}
 use Rattle.rpm_db.specs.Lawful.{HasRows}
 use Rattle.rpm_db.specs.State.{Package, packages}
 use Rattle.rpm_select.specs.declared.picked.Picked.{Picked}
@@ -27,17 +28,17 @@ pub data Reach : Type 0 where
   These : List ℕ → Reach
 
 -- an index is asked
-abbrev pub asks : Database → Selection → Bool
-asks db sel = has_keys sel && is_indexed db
+abbrev pub asks_index : Database → Selection → Bool
+asks_index db sel = has_keys sel && is_indexed db
 
 -- where no index is asked
-abbrev pub unasked : Selection → Reach
-unasked (Number m) = These (m ∷ [])
-unasked others = Everything
+abbrev pub unindexed_reach : Selection → Reach
+unindexed_reach (Number m) = These (m ∷ [])
+unindexed_reach others = Everything
 
 -- where an index is asked, the candidates alone
 abbrev pub reach : Bool → Selection → finite.FinMap nat_cmp Package → Reach
-reach asked sel packages = if asked then These (map (λ e. e.0) (candidates packages sel)) else unasked sel
+reach asked sel packages = if asked then These (map (λ e. e.0) (candidates packages sel)) else unindexed_reach sel
 
 -- a number is one of these
 abbrev pub is_in : ℕ → List ℕ → Bool
@@ -51,27 +52,28 @@ reaches (These ns) db n = is_in n ns
 -- whatever is picked is in reach
 abbrev pub Serves : Reach → finite.FinMap nat_cmp Package → Selection → Type 0
 Serves Everything packages sel = Unit {0}
-Serves (These ns) packages sel = (n : ℕ) (p : Package) → finite.get packages n ≡ Some p → is_picked sel (n, p) ≡ true → is_in n ns ≡ true
+Serves (These ns) packages sel = (n : ℕ) (p : Package) → finite.get packages n ≡ Some p → is_picked sel (n, p) ≡ true
+    → is_in n ns ≡ true
 
 -- an index that is kept holds the rows of the packages
 abbrev pub HasIndexRows : Database → Units → Units → Type 0
-HasIndexRows db pkg idx = is_indexed db ≡ true → HasRows (packages pkg (room db)) idx
+HasIndexRows db pkg idx = is_indexed db ≡ true → HasRows (packages pkg (store_of db)) idx
 
 -- ---- what is read
 
 -- the blocks of these numbers, up to this one
 abbrev pub costs_to : ℕ → List ℕ → Database → ℕ
-costs_to m ns db = sum_by (λ n. cost n db) (filter (λ n. nat_le n m) ns)
+costs_to m ns db = sum_by (λ n. package_cost n db) (filter (λ n. nat_le n m) ns)
 
 -- the blocks of the numbers that are gone over, up to this one
 abbrev pub reach_to : ℕ → Reach → Database → ℕ
-reach_to m Everything db = cost_to m db
+reach_to m Everything db = packages_cost_to m db
 reach_to m (These ns) db = costs_to m ns db
 
 -- a question reads the blocks of all numbers that it goes over
 abbrev pub reach_all : Reach → Database → ℕ
-reach_all Everything db = cost_all db
-reach_all (These ns) db = sum_by (λ n. cost n db) ns
+reach_all Everything db = packages_cost db
+reach_all (These ns) db = sum_by (λ n. package_cost n db) ns
 
 -- a question reads the blocks of the numbers above n, up to the one that it gives
 abbrev pub reach_after : ℕ → Reach → Database → Result (Option Picked) PickFault → ℕ
@@ -114,7 +116,7 @@ IsFaultOfOne [] idx unit = ⊥
 IsFaultOfOne ((kind, key) ∷ keys) idx unit = (key_chain (code_of kind) key idx ≡ Err unit) ⊎ IsFaultOfOne keys idx unit
 
 -- an index is said to be broken only by that
-abbrev pub IsBroken : List (Kind × List ℕ) → Units → PickFault → Type 0
-IsBroken keys idx (BadIndex unit) = IsFaultOfOne keys idx unit
-IsBroken keys idx DiskFault = Unit {0}
-IsBroken keys idx NoMemory = Unit {0}
+abbrev pub IsBrokenChain : List (Kind × List ℕ) → Units → PickFault → Type 0
+IsBrokenChain keys idx (BadIndex unit) = IsFaultOfOne keys idx unit
+IsBrokenChain keys idx DiskFault = Unit {0}
+IsBrokenChain keys idx NoMemory = Unit {0}

@@ -10,13 +10,13 @@ use Rattle.rpm_select.specs.Picks.{number_in, package_in}
 use Rattle.rpm_select.specs.Selections.{is_picked}
 
 -- what is held, if anything is, has this number
-abbrev pub has_number : ℕ → Option Picked → Bool
-has_number n None = false
-has_number n (Some picked) = number_in picked == n
+abbrev pub has_recent_number : ℕ → Option Picked → Bool
+has_recent_number n None = false
+has_recent_number n (Some picked) = number_in picked == n
 
 -- the package of this number is held
 abbrev pub IsHeld : ℕ → Recent → Type 0
-IsHeld n recent = (has_number n recent.last || has_number n recent.longest) ≡ true
+IsHeld n recent = (has_recent_number n recent.last || has_recent_number n recent.longest) ≡ true
 
 -- what was picked is the package of its number
 abbrev pub IsOf : finite.FinMap nat_cmp Package → Picked → Type 0

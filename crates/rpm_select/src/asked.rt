@@ -1,7 +1,7 @@
 //! The keys that a selection asks an index for.
 
 ghost use Rattle.std.specs.Prelude.{◌≡◌, ◌≤◌, ◌++◌, ◌∷◌, [], not, length, IfOk, OnOk};
-ghost use Rattle.rpm_select.specs.Prelude.{base_name, cut, Installtid, is_byte, is_dash, keys_asked, name_keys, names_in, number_key, one, option_and_then, option_copied, path_keys, Providename, suffix_len};
+ghost use Rattle.rpm_select.specs.Prelude.{base_name, cut_text, Installtid, is_byte, is_dash, keys_asked, name_keys, names_in, number_key, one_candidate, option_and_then, option_copied, path_keys, Providename, suffix_len};
 
 use crate::rows::is_slash_first;
 use crate::selection::Selection;
@@ -77,7 +77,7 @@ fn behind_len(text: &[u8], byte: u8) -> usize
 
 /// A text before its last such byte, where it has one.
 fn before_last(text: &[u8], byte: u8) -> Option<&[u8]>
-    ensures { option_copied result ≡ cut (is_byte byte) text.now }
+    ensures { option_copied result ≡ cut_text (is_byte byte) text.now }
 {
     let behind = behind_len(text, byte);
     if behind < text.len() {
@@ -96,7 +96,7 @@ fn base_name(path: &[u8]) -> &[u8]
 
 /// Adds a name, where there is one.
 fn push_name<'a>(keys: &mut Vec<Asked<'a>>, name: Option<&'a [u8]>) -> Result<(), AllocError>
-    ensures { OnOk result (keys.new.items ≡ keys.old.items ++ name_keys (one (option_copied name.entry))) }
+    ensures { OnOk result (keys.new.items ≡ keys.old.items ++ name_keys (one_candidate (option_copied name.entry))) }
 {
     match name {
         None => Ok(()),
@@ -109,7 +109,7 @@ fn push_name<'a>(keys: &mut Vec<Asked<'a>>, name: Option<&'a [u8]>) -> Result<()
 
 /// A text before its last dash but one, where it has two.
 fn before_two(text: &[u8]) -> Option<&[u8]>
-    ensures { option_copied result ≡ option_and_then (cut is_dash) (cut is_dash text.now) }
+    ensures { option_copied result ≡ option_and_then (cut_text is_dash) (cut_text is_dash text.now) }
 {
     before_last(before_last(text, b'-')?, b'-')
 }

@@ -1,7 +1,7 @@
 //! The packages that an index has under the keys of a selection.
 
 ghost use Rattle.std.specs.Prelude.{◌≡◌, ◌≢◌, ℕ, ◌++◌, ◌∷◌, [], IsTrue, false, map, Err, IfOk, IfErr, OnOk};
-ghost use Rattle.rpm_select.specs.Prelude.{Adds, AreWith, AsksIndex, DiskFault, HasIndex, HasRows, Idx, is_in, is_of_index, IsBroken, IsStrictlyIncreasing, KeptIndex, keys_asked, KeysCost, LooksAt, packages_in, rows};
+ghost use Rattle.rpm_select.specs.Prelude.{NumbersOfKey, AreWith, AsksIndex, DiskFault, HasIndex, HasRows, Idx, is_in, is_of_index, IsBrokenChain, IsStrictlyIncreasing, IsIndexKept, keys_asked, KeysCost, OnlyReadsFile, packages_in, rows};
 
 use crate::asked::{Asked, keys_asked};
 use crate::picked::PickFault;
@@ -41,13 +41,13 @@ fn push_found<D: Disk>(
 ) -> Result<(), PickFault>
     requires index { HasIndex D.Disk disk.old db.now }
     ensures adds { OnOk result (IsTrue D.tells → HasRows (packages_in D.Disk disk.old db.now) (D.files disk.old).idx
-        → Adds (rows (packages_in D.Disk disk.old db.now)) key.now numbers.old.items numbers.new.items) }
-    ensures kept { KeptIndex D.Disk disk.new db.now }
-    ensures broken { IsTrue D.tells → IfErr result (IsBroken (key.now ∷ []) (D.files disk.old).idx) }
+        → NumbersOfKey (rows (packages_in D.Disk disk.old db.now)) key.now numbers.old.items numbers.new.items) }
+    ensures kept { IsIndexKept D.Disk disk.new db.now }
+    ensures broken { IsTrue D.tells → IfErr result (IsBrokenChain (key.now ∷ []) (D.files disk.old).idx) }
     ensures lawful { IsTrue D.tells → HasRows (packages_in D.Disk disk.old db.now) (D.files disk.old).idx
         → IfErr result (λ fault. is_of_index fault ≡ false) }
     ensures cost { IsTrue D.tells → KeysCost (D.files disk.old).idx (key.now ∷ []) (D.bytes_read disk.old File.Idx) (D.bytes_read disk.new File.Idx) }
-    ensures looks { LooksAt D.Disk Idx disk.old disk.new }
+    ensures looks { OnlyReadsFile D.Disk Idx disk.old disk.new }
     ensures cause { DiskFault D.Disk (result ≡ Err PickFault.DiskFault) disk.old disk.new }
 {
     match db.find(alloc, disk, key.kind(), key.bytes()) {
@@ -69,12 +69,12 @@ fn found<D: Disk>(
     ensures with { IfOk result (λ numbers. IsTrue D.tells
         → HasRows (packages_in D.Disk disk.old db.now) (D.files disk.old).idx
         → AreWith (rows (packages_in D.Disk disk.old db.now)) keys.now numbers.items) }
-    ensures kept { KeptIndex D.Disk disk.new db.now }
-    ensures broken { IsTrue D.tells → IfErr result (IsBroken keys.now (D.files disk.old).idx) }
+    ensures kept { IsIndexKept D.Disk disk.new db.now }
+    ensures broken { IsTrue D.tells → IfErr result (IsBrokenChain keys.now (D.files disk.old).idx) }
     ensures lawful { IsTrue D.tells → HasRows (packages_in D.Disk disk.old db.now) (D.files disk.old).idx
         → IfErr result (λ fault. is_of_index fault ≡ false) }
     ensures cost { IsTrue D.tells → KeysCost (D.files disk.old).idx keys.now (D.bytes_read disk.old File.Idx) (D.bytes_read disk.new File.Idx) }
-    ensures looks { LooksAt D.Disk Idx disk.old disk.new }
+    ensures looks { OnlyReadsFile D.Disk Idx disk.old disk.new }
     ensures cause { DiskFault D.Disk (result ≡ Err PickFault.DiskFault) disk.old disk.new }
 {
     let mut numbers = Vec::new(alloc);

@@ -1,7 +1,7 @@
 //! The labels of a package.
 
 ghost use Rattle.std.specs.Prelude.{◌≡◌, ◌++◌, ◌∷◌, true, false, IfOk, OnOk};
-ghost use Rattle.rpm_select.specs.Prelude.{is_dash, is_dash_or_dot, labels, list_any, matches, option_copied, with_arch, with_name, with_release, with_version, without};
+ghost use Rattle.rpm_select.specs.Prelude.{is_dash, is_dash_or_dot, labels, list_any, matches, option_copied, with_arch, with_name, with_release, with_version, without_bytes};
 
 use crate::matching::glob;
 use rpm_header::View;
@@ -59,7 +59,7 @@ fn has_dash_or_dot(text: &[u8]) -> bool
 
 /// A text that has no dash.
 fn without_dash(text: Option<&[u8]>) -> Option<&[u8]>
-    ensures { option_copied result ≡ without is_dash (option_copied text.entry) }
+    ensures { option_copied result ≡ without_bytes is_dash (option_copied text.entry) }
 {
     let text = text?;
     if has_dash(text) {
@@ -70,7 +70,7 @@ fn without_dash(text: Option<&[u8]>) -> Option<&[u8]>
 
 /// A text that has neither a dash nor a dot.
 fn without_dash_or_dot(text: Option<&[u8]>) -> Option<&[u8]>
-    ensures { option_copied result ≡ without is_dash_or_dot (option_copied text.entry) }
+    ensures { option_copied result ≡ without_bytes is_dash_or_dot (option_copied text.entry) }
 {
     let text = text?;
     if has_dash_or_dot(text) {

@@ -1,7 +1,7 @@
 //! Globs.
 
 ghost use Rattle.std.specs.Prelude.{◌≡◌};
-ghost use Rattle.rpm_select.specs.Prelude.{glob, IsUnclosed, LeavesUnclosed, StepIs};
+ghost use Rattle.rpm_select.specs.Prelude.{glob, IsUnclosed, LeavesUnclosed, MoveIs};
 
 use crate::piece::{Piece, next_piece, takes, unclosed_len};
 
@@ -21,7 +21,7 @@ enum Move<'a> {
 
 fn step<'a>(glob: &'a [u8], unclosed: usize, text: &'a [u8]) -> Move<'a>
     requires { IsUnclosed unclosed glob.now }
-    ensures step { StepIs glob.now text.now result }
+    ensures step { MoveIs glob.now text.now result }
     ensures unclosed { LeavesUnclosed unclosed result }
 {
     match (next_piece(glob, unclosed), text) {

@@ -2,7 +2,7 @@
 
 ghost use Rattle.std.specs.Prelude.{◌≡◌, ◌≢◌, ℕ, IsTrue, IfOk, false, true, Ok, Err, Some};
 ghost use Rattle.std.specs.FinMap as finite;
-ghost use Rattle.rpm_select.specs.Prelude.{AsksPackages, Bad, cost, header, is_broken, is_elsewhere, IsNumbered, Kept, NoMemory, number_in, OneIs, OneOf, package_of, packages_in, TakenIs, takes_bad};
+ghost use Rattle.rpm_select.specs.Prelude.{AsksPackages, Bad, package_cost, header, is_broken, is_elsewhere, IsNumbered, IsStoreKept, NoMemory, number_in, OneIs, OneOf, package_of, packages_in, TakenIs, takes_bad};
 
 use crate::rows::takes_header;
 use crate::selection::Selection;
@@ -215,11 +215,11 @@ pub fn pick<D: Disk>(
     number: u32,
     room: &mut Vec<u8>,
 ) -> Result<Option<Picked>, PickFault>
-    requires keeps { Kept D.Disk disk.old db.now }
+    requires keeps { IsStoreKept D.Disk disk.old db.now }
     requires runs { db.now.stopped ≡ false }
     ensures told { IsTrue D.tells → OneOf selection.now number (finite.get (packages_in D.Disk disk.old db.now) number) result }
     ensures numbered { IsNumbered number result }
-    ensures asks { AsksPackages D.Disk (cost number db.now) disk.old disk.new db.now result }
+    ensures asks { AsksPackages D.Disk (package_cost number db.now) disk.old disk.new db.now result }
     ensures unread { is_elsewhere selection.now number ≡ true → D.bytes_read disk.new File.Pkg ≡ D.bytes_read disk.old File.Pkg }
 {
     if is_elsewhere(selection, number) {

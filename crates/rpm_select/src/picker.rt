@@ -1,8 +1,8 @@
 //! The packages that a question picks, one at a time.
 
 ghost use Rattle.std.specs.Prelude.{◌≡◌, ◌<◌, IsTrue, IsOk, IfOk, IfSome, Ok, ◌+◌, ◌≤◌, false};
-ghost use Rattle.rpm_select.specs.Prelude.{above, AnyIs, AsksPackages, asks, AsksIndex, cost_after, cost_to, IsNext, IsStrictlyIncreasing, Kept, KeptIndex, keys_asked, Looks, NextIs, number_in, packages_in, picks, Pkg, reach, reach_after, reach_to, reaches, ReadsOwn, Serves, These, unasked};
-ghost use Rattle.rpm_select.specs.Frame.{HasRows};
+ghost use Rattle.rpm_select.specs.Prelude.{above, AnyIs, AsksPackages, asks_index, AsksIndex, cost_after, packages_cost_to, IsNext, IsStrictlyIncreasing, IsStoreKept, IsIndexKept, keys_asked, OnlyReads, NextIs, number_in, packages_in, picks, Pkg, reach, reach_after, reach_to, reaches, ReadsOwn, Serves, These, unindexed_reach};
+ghost use Rattle.rpm_select.specs.Frame.{HasKeptRows};
 
 use crate::asking::numbers_asked;
 use crate::picked::{PickFault, Picked, pick};
@@ -24,19 +24,19 @@ pub struct Picker {
 }
 
 impl Model for Picker {
-    ghost use Rattle.rpm_select.specs.inner.Reaching.{reach_of, IsRising};
+    ghost use Rattle.rpm_select.specs.inner.Reaching.{reach_of, AreNumbersRising};
     ghost use Rattle.rpm_select.specs.Reach as model;
 
     ghost Value = { model.Reach };
 
     ghost view = { λ s. reach_of s.reach };
 
-    ghost invariant = { λ s. IsRising s.reach };
+    ghost invariant = { λ s. AreNumbersRising s.reach };
 }
 
 /// Whether an index is asked: one is kept, and the selection has keys.
 fn asks(db: &Db, selection: &Selection<'_>) -> bool
-    ensures { result ≡ asks db.now selection.now }
+    ensures { result ≡ asks_index db.now selection.now }
 {
     match selection {
         Selection::All | Selection::Pattern(_) | Selection::Number(_) => false,
@@ -46,7 +46,7 @@ fn asks(db: &Db, selection: &Selection<'_>) -> bool
 
 /// A picker that asked no index.
 fn unasked(alloc: Global, selection: &Selection<'_>) -> Picker
-    ensures { result ≡ unasked selection.now }
+    ensures { result ≡ unindexed_reach selection.now }
 {
     let reach = match selection {
         Selection::Number(number) => Reach::One(*number),
@@ -97,15 +97,15 @@ impl Picker {
         disk: &mut D,
         selection: &Selection<'_>,
     ) -> Result<Picker, PickFault>
-        requires keeps_index { KeptIndex D.Disk disk.old db.now }
+        requires keeps_index { IsIndexKept D.Disk disk.old db.now }
         requires runs { db.now.stopped ≡ false }
-        ensures begins { asks db.now selection.now ≡ false → IsOk result }
-        ensures plain { asks db.now selection.now ≡ false → result ≡ Ok (unasked selection.now) }
-        ensures unread { asks db.now selection.now ≡ false → Looks D.Disk Pkg 0 disk.old disk.new }
+        ensures begins { asks_index db.now selection.now ≡ false → IsOk result }
+        ensures plain { asks_index db.now selection.now ≡ false → result ≡ Ok (unindexed_reach selection.now) }
+        ensures unread { asks_index db.now selection.now ≡ false → OnlyReads D.Disk Pkg 0 disk.old disk.new }
         ensures asks { AsksIndex D.Disk (keys_asked selection.now) disk.old disk.new db.now result }
-        ensures reach { IfOk result (λ picker. IsTrue D.tells → HasRows D.Disk disk.old db.now
-            → picker ≡ reach (asks db.now selection.now) selection.now (packages_in D.Disk disk.old db.now)) }
-        ensures serves { IfOk result (λ picker. IsTrue D.tells → HasRows D.Disk disk.old db.now
+        ensures reach { IfOk result (λ picker. IsTrue D.tells → HasKeptRows D.Disk disk.old db.now
+            → picker ≡ reach (asks_index db.now selection.now) selection.now (packages_in D.Disk disk.old db.now)) }
+        ensures serves { IfOk result (λ picker. IsTrue D.tells → HasKeptRows D.Disk disk.old db.now
             → Serves picker (packages_in D.Disk disk.old db.now) selection.now) }
     {
         if !asks(db, selection) {
@@ -144,7 +144,7 @@ impl Picker {
         selection: &Selection<'_>,
         n: u32,
     ) -> Result<Option<Picked>, PickFault>
-        requires keeps { Kept D.Disk disk.old db.now }
+        requires keeps { IsStoreKept D.Disk disk.old db.now }
         requires runs { db.now.stopped ≡ false }
         ensures told { IsTrue D.tells → Serves self.old (packages_in D.Disk disk.old db.now) selection.now
             → NextIs (above n (picks (packages_in D.Disk disk.old db.now) selection.now)) result }
@@ -182,13 +182,13 @@ impl Picker {
         selection: &Selection<'_>,
         n: u32,
     ) -> Result<bool, PickFault>
-        requires keeps { Kept D.Disk disk.old db.now }
+        requires keeps { IsStoreKept D.Disk disk.old db.now }
         requires runs { db.now.stopped ≡ false }
         ensures told { IsTrue D.tells → Serves self.old (packages_in D.Disk disk.old db.now) selection.now
             → AnyIs (above 0 (picks (packages_in D.Disk disk.old db.now) selection.now)) n result }
         ensures same { self.new ≡ self.old }
         ensures reads { D.bytes_read disk.new File.Pkg ≤ D.bytes_read disk.old File.Pkg + reach_to n self.old db.now }
-        ensures asks { AsksPackages D.Disk (cost_to n db.now) disk.old disk.new db.now result }
+        ensures asks { AsksPackages D.Disk (packages_cost_to n db.now) disk.old disk.new db.now result }
         ensures own { ReadsOwn selection.now db.now (D.bytes_read disk.old File.Pkg) (D.bytes_read disk.new File.Pkg) }
     {
         let mut room = replace(&mut self.room, Vec::new(alloc));

@@ -1,7 +1,7 @@
 //! The pieces of a glob.
 
 ghost use Rattle.std.specs.Prelude.{◌≡◌, ◌+◌, ◌≤◌, ◌<◌, ◌∷◌, [], MatchOption, IfSome, length};
-ghost use Rattle.rpm_select.specs.Prelude.{bracketed, first_has, first_len, is_close, is_member, is_range, is_turned, IsUnclosed, member_count, piece_at, piece_in, pieces, position_or_len, takes, written_in};
+ghost use Rattle.rpm_select.specs.Prelude.{bracketed_set, first_has, first_len, is_close, is_member, is_member_range, is_turned, IsUnclosed, member_count, piece_at, piece_in, pieces, position_or_len, takes_byte, written_in};
 
 /// What a part of a glob stands for.
 #[derive(Clone, Copy)]
@@ -25,7 +25,7 @@ struct Written<'a> {
 
 /// Whether the members of a set begin with a range.
 fn is_range(members: &[u8]) -> bool
-    ensures { result ≡ is_range members.now }
+    ensures { result ≡ is_member_range members.now }
 {
     members.len() > 2 && members[1] == b'-'
 }
@@ -68,7 +68,7 @@ fn is_member(byte: u8, members: &[u8]) -> bool
 
 /// Whether a piece stands for a byte.
 pub fn takes(piece: Piece<'_>, byte: u8) -> bool
-    ensures { result ≡ takes (piece_in piece.entry) byte }
+    ensures { result ≡ takes_byte (piece_in piece.entry) byte }
 {
     match piece {
         Piece::Star => false,
@@ -138,7 +138,7 @@ fn member_count(members: &[u8], unclosed: usize) -> Option<usize>
 #[tactic(auto, using(crate::proofs::Unclosed::unclosed_behind))]
 fn bracketed(rest: &[u8], unclosed: usize) -> Written<'_>
     requires { IsUnclosed unclosed rest.now }
-    ensures value { written_in result ≡ bracketed rest.now }
+    ensures value { written_in result ≡ bracketed_set rest.now }
     ensures within { result.size ≤ length rest.now + 1 }
     ensures some { 0 < result.size }
 {

@@ -1,7 +1,7 @@
 //! The numbers that a picker goes over.
 
 ghost use Rattle.std.specs.Prelude.{◌<◌, ◌≤◌, ℕ, length, slice_index};
-ghost use Rattle.rpm_select.specs.Prelude.{is_in, IsNext, IsRising, IsStrictlyIncreasing, reach_of, reaches};
+ghost use Rattle.rpm_select.specs.Prelude.{is_in, IsNext, AreNumbersRising, IsStrictlyIncreasing, reach_of, reaches};
 
 use rpm_db::Db;
 
@@ -44,7 +44,7 @@ fn next_of(numbers: &[u32], n: u32) -> Option<u32>
 impl Reach {
     /// The least of them that is above this one.
     pub fn next_above(&self, db: &Db, n: u32) -> Option<u32>
-        requires { IsRising self.now }
+        requires { AreNumbersRising self.now }
         ensures { IsNext (reaches (reach_of self.now) db.now) n result }
     {
         match self {

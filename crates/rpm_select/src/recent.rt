@@ -1,7 +1,7 @@
 //! The package that was read last.
 
 ghost use Rattle.std.specs.Prelude.{◌≡◌, ◌≢◌, ◌<◌, ◌≤◌, ◌+◌, ℕ, IsTrue, is_some, true, false, Ok, Err, Some, IfOk, IfSome};
-ghost use Rattle.rpm_select.specs.Prelude.{above, AsksPackages, cost, is_broken, is_picked, cost_next, has_number, IsHeld, IsNext, IsOf, Kept, nat_cmp, NextIs, NextNumberIs, number_in, Package, package_in, packages_in, picks, picks_at, reach_next, reaches, Recalls, Serves};
+ghost use Rattle.rpm_select.specs.Prelude.{above, AsksPackages, package_cost, is_broken, is_picked, cost_next, has_recent_number, IsHeld, IsNext, IsOf, IsStoreKept, nat_cmp, NextIs, NextNumberIs, number_in, Package, package_in, packages_in, picks, picks_at, reach_next, reaches, Recalls, Serves};
 ghost use Rattle.std.specs.FinMap as finite;
 
 use crate::picked::{PickFault, Picked, pick, takes_bad};
@@ -46,7 +46,7 @@ fn length_of(held: &Option<Picked>) -> usize {
 
 /// The package that is held, if it is the one of this number.
 fn of_number(held: &Option<Picked>, number: u32) -> Option<&Picked>
-    ensures given { has_number number held.now ≡ is_some result }
+    ensures given { has_recent_number number held.now ≡ is_some result }
     ensures number { IfSome result (λ picked. number_in picked.now ≡ number) }
     ensures same { IfSome result (λ picked. held.now ≡ Some picked.now) }
 {
@@ -117,14 +117,14 @@ impl Recent {
         selection: &Selection<'_>,
         number: u32,
     ) -> Result<bool, PickFault>
-        requires keeps { Kept D.Disk disk.old db.now }
+        requires keeps { IsStoreKept D.Disk disk.old db.now }
         requires runs { db.now.stopped ≡ false }
         ensures told { IfOk result (λ b. IsTrue D.tells → Recalls (packages_in D.Disk disk.old db.now) self.old
             → b ≡ picks_at selection.now number (finite.get (packages_in D.Disk disk.old db.now) number)) }
         ensures recalls { IsTrue D.tells → Recalls (packages_in D.Disk disk.old db.now) self.old
             → Recalls (packages_in D.Disk disk.old db.now) self.new }
         ensures held { result ≡ Ok true → IsHeld number self.new }
-        ensures asks { AsksPackages D.Disk (cost number db.now) disk.old disk.new db.now result }
+        ensures asks { AsksPackages D.Disk (package_cost number db.now) disk.old disk.new db.now result }
         ensures unread { IsHeld number self.old → D.bytes_read disk.new File.Pkg ≡ D.bytes_read disk.old File.Pkg }
     {
         if let Some(held) = self.recall(number) {
@@ -155,7 +155,7 @@ impl Picker {
         recent: &mut Recent,
         n: u32,
     ) -> Result<Option<u32>, PickFault>
-        requires keeps { Kept D.Disk disk.old db.now }
+        requires keeps { IsStoreKept D.Disk disk.old db.now }
         requires runs { db.now.stopped ≡ false }
         ensures told { IsTrue D.tells → Serves self.now (packages_in D.Disk disk.old db.now) selection.now
             → Recalls (packages_in D.Disk disk.old db.now) recent.old

@@ -1,7 +1,7 @@
 //! Whether a header is picked.
 
 ghost use Rattle.std.specs.Prelude.{◌≡◌, ◌==◌, slice_index, IfOk};
-ghost use Rattle.rpm_select.specs.Prelude.{first_text, GROUP, has_any, INSTALLTID, is_among, is_file_of, is_first, list_any, listed, meets, needed_by, needed_in, numbers_in, takes_header, texts_in};
+ghost use Rattle.rpm_select.specs.Prelude.{first_text, GROUP, has_any, INSTALLTID, is_text_among, is_file_of, is_text, list_any, list_or_empty, meets_capability, needed_by, needed_in, numbers_in, takes_header, texts_in};
 
 use crate::labels::{any_label, glob_of, text_of};
 use crate::selection::Selection;
@@ -45,7 +45,7 @@ const RECOMMENDS: Tags = Tags {
 
 /// Whether what a package needs or gives has the name of a capability, and their ranges overlap.
 fn meets(capability: &Capability<'_>, needed: Dependency<'_>) -> bool
-    ensures { result ≡ meets capability.now (needed_in needed.entry) }
+    ensures { result ≡ meets_capability capability.now (needed_in needed.entry) }
 {
     if needed.name != capability.name() {
         return false;
@@ -86,7 +86,7 @@ fn is_file_of(view: &View<'_>, capability: &Capability<'_>) -> bool
 }
 
 fn is_in(texts: &Texts<'_>, wanted: &[u8]) -> bool
-    ensures { result ≡ is_among wanted.now texts.now }
+    ensures { result ≡ is_text_among wanted.now texts.now }
 {
     let mut left = texts.iter();
     while let Some(text) = left.next() {
@@ -99,7 +99,7 @@ fn is_in(texts: &Texts<'_>, wanted: &[u8]) -> bool
 
 /// Whether a text is an element of a tag.
 fn is_among(view: &View<'_>, tag: u32, wanted: &[u8]) -> bool
-    ensures { result ≡ is_among wanted.now (listed (texts_in view.now tag)) }
+    ensures { result ≡ is_text_among wanted.now (list_or_empty (texts_in view.now tag)) }
 {
     match texts_in(view, tag) {
         None => false,
@@ -120,7 +120,7 @@ fn is_number_in(numbers: &Numbers<'_>, wanted: u32) -> bool
 
 /// Whether a number is an element of INSTALLTID.
 fn has_transaction(view: &View<'_>, wanted: u32) -> bool
-    ensures { result ≡ list_any (λ m. m == wanted) (listed (numbers_in view.now INSTALLTID)) }
+    ensures { result ≡ list_any (λ m. m == wanted) (list_or_empty (numbers_in view.now INSTALLTID)) }
 {
     match numbers_in(view, numbers::INSTALLTID) {
         None => false,
@@ -130,7 +130,7 @@ fn has_transaction(view: &View<'_>, wanted: u32) -> bool
 
 /// Whether a text is the first of GROUP.
 fn is_group(view: &View<'_>, wanted: &[u8]) -> bool
-    ensures { result ≡ is_first wanted.now (first_text view.now GROUP) }
+    ensures { result ≡ is_text wanted.now (first_text view.now GROUP) }
 {
     match first_text(view, numbers::GROUP) {
         None => false,

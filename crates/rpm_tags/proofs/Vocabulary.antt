@@ -3,14 +3,14 @@ pub use Rattle.rpm_tags.specs.Table.{is_tag, name_of, plain, tag_of}
 unfoldable pub use Rattle.rpm_tags.specs.Table.{name_in, table, tag_in}
 pub use Rattle.rpm_tags.specs.Value.{are_matched, file_name, text_at}
 unfoldable pub use Rattle.rpm_tags.specs.Value.{file_names}
-pub use Rattle.rpm_tags.specs.Wanted.{base_name, beside, counts_for, first_or, listed}
+pub use Rattle.rpm_tags.specs.Wanted.{base_name, beside, counts_for, first_or, list_or_empty}
 pub use Rattle.rpm_tags.specs.declared.joined.TextPart.{TextPart}
 pub use Rattle.rpm_tags.specs.declared.tag.Row.{Row}
 pub use Rattle.rpm_tags.specs.declared.tag.Tag.{Tag}
 pub use Rattle.rpm_tags.specs.declared.tag.Tag.TheVariants.{Dbinstance, Epochnum, Evr, Filenames, Nevra, Nvr, Nvra, Stored}
-pub use Rattle.rpm_tags.specs.inner.Left.{IsLeft}
-pub use Rattle.rpm_tags.specs.inner.Parts.{bytes_of, IsInParts, IsPart, parts_of}
-pub use Rattle.rpm_tags.specs.inner.Recent.{IsRead}
+pub use Rattle.rpm_tags.specs.inner.Left.{IsPartLeft}
+pub use Rattle.rpm_tags.specs.inner.Parts.{bytes_of_parts, IsInParts, IsPart, parts_of}
+pub use Rattle.rpm_tags.specs.inner.Recent.{IsDirectoryRead}
 pub use Rattle.rpm_tags.specs.inner.Rows.{AreAsked, AreLeft}
 pub use Rattle.rpm_tags.specs.inner.TagRows.{as_table}
 pub use Rattle.std.specs.Fmt.{decimal}

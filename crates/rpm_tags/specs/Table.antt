@@ -1,5 +1,6 @@
 -- The names of the tags.
-use Rattle.std.specs.Prelude.{ℕ, ◌+◌, List, [], ◌∷◌, ◌++◌, codes, Option, Some, None, Bool, true, false, ◌==◌, drop, take, if◌then◌else◌}
+use Rattle.std.specs.Prelude.{ℕ, ◌+◌, List, [], ◌∷◌, ◌++◌, codes, Option, Some, None, Bool, true, false, ◌==◌, drop}
+use Rattle.std.specs.Prelude.{take, if◌then◌else◌}
 use Rattle.std.specs.Str.{str_eq_ignore_ascii_case}
 use Rattle.rpm_tags.specs.declared.tag.Tag.{Tag}
 use Rattle.rpm_tags.specs.declared.tag.Tag.TheVariants.{Stored, Nvra, Nevra, Evr, Nvr, Epochnum, Filenames, Dbinstance}
@@ -16,30 +17,38 @@ table =
     from 261 (codes "SIGMD5" ∷ []) ++
     from 269 (codes "SHA1HEADER" ∷ []) ++
     from 273 (codes "SHA256HEADER" ∷ []) ++
-    from 1000 (codes "NAME" ∷ codes "VERSION" ∷ codes "RELEASE" ∷ codes "EPOCH" ∷ codes "SUMMARY" ∷ codes "DESCRIPTION" ∷ codes "BUILDTIME" ∷
+    from 1000 (codes "NAME" ∷ codes "VERSION" ∷ codes "RELEASE" ∷ codes "EPOCH" ∷ codes "SUMMARY" ∷ codes "DESCRIPTION"
+    ∷ codes "BUILDTIME" ∷
     codes "BUILDHOST" ∷ codes "INSTALLTIME" ∷ codes "SIZE" ∷ codes "DISTRIBUTION" ∷ codes "VENDOR" ∷ []) ++
     from 1014 (codes "LICENSE" ∷ codes "PACKAGER" ∷ codes "GROUP" ∷ []) ++
-    from 1018 (codes "SOURCE" ∷ codes "PATCH" ∷ codes "URL" ∷ codes "OS" ∷ codes "ARCH" ∷ codes "PREIN" ∷ codes "POSTIN" ∷ codes "PREUN" ∷
+    from 1018 (codes "SOURCE" ∷ codes "PATCH" ∷ codes "URL" ∷ codes "OS" ∷ codes "ARCH" ∷ codes "PREIN" ∷ codes "POSTIN"
+    ∷ codes "PREUN" ∷
     codes "POSTUN" ∷ []) ++
     from 1028 (codes "FILESIZES" ∷ codes "FILESTATES" ∷ codes "FILEMODES" ∷ []) ++
-    from 1033 (codes "FILERDEVS" ∷ codes "FILEMTIMES" ∷ codes "FILEDIGESTS" ∷ codes "FILELINKTOS" ∷ codes "FILEFLAGS" ∷ []) ++
+    from 1033 (codes "FILERDEVS" ∷ codes "FILEMTIMES" ∷ codes "FILEDIGESTS" ∷ codes "FILELINKTOS" ∷ codes "FILEFLAGS"
+    ∷ []) ++
     from 1039 (codes "FILEUSERNAME" ∷ codes "FILEGROUPNAME" ∷ []) ++
-    from 1044 (codes "SOURCERPM" ∷ codes "FILEVERIFYFLAGS" ∷ codes "ARCHIVESIZE" ∷ codes "PROVIDENAME" ∷ codes "REQUIREFLAGS" ∷
+    from 1044 (codes "SOURCERPM" ∷ codes "FILEVERIFYFLAGS" ∷ codes "ARCHIVESIZE" ∷ codes "PROVIDENAME"
+    ∷ codes "REQUIREFLAGS" ∷
     codes "REQUIRENAME" ∷ codes "REQUIREVERSION" ∷ []) ++
     from 1053 (codes "CONFLICTFLAGS" ∷ codes "CONFLICTNAME" ∷ codes "CONFLICTVERSION" ∷ []) ++
-    from 1064 (codes "RPMVERSION" ∷ codes "TRIGGERSCRIPTS" ∷ codes "TRIGGERNAME" ∷ codes "TRIGGERVERSION" ∷ codes "TRIGGERFLAGS" ∷
+    from 1064 (codes "RPMVERSION" ∷ codes "TRIGGERSCRIPTS" ∷ codes "TRIGGERNAME" ∷ codes "TRIGGERVERSION"
+    ∷ codes "TRIGGERFLAGS" ∷
     codes "TRIGGERINDEX" ∷ []) ++
     from 1080 (codes "CHANGELOGTIME" ∷ codes "CHANGELOGNAME" ∷ codes "CHANGELOGTEXT" ∷ []) ++
     from 1085 (codes "PREINPROG" ∷ codes "POSTINPROG" ∷ codes "PREUNPROG" ∷ codes "POSTUNPROG" ∷ []) ++
     from 1090 (codes "OBSOLETENAME" ∷ []) ++
     from 1095 (codes "FILEDEVICES" ∷ codes "FILEINODES" ∷ codes "FILELANGS" ∷ []) ++
-    from 1112 (codes "PROVIDEFLAGS" ∷ codes "PROVIDEVERSION" ∷ codes "OBSOLETEFLAGS" ∷ codes "OBSOLETEVERSION" ∷ codes "DIRINDEXES" ∷
+    from 1112 (codes "PROVIDEFLAGS" ∷ codes "PROVIDEVERSION" ∷ codes "OBSOLETEFLAGS" ∷ codes "OBSOLETEVERSION"
+    ∷ codes "DIRINDEXES" ∷
     codes "BASENAMES" ∷ codes "DIRNAMES" ∷ []) ++
-    from 1122 (codes "OPTFLAGS" ∷ codes "DISTURL" ∷ codes "PAYLOADFORMAT" ∷ codes "PAYLOADCOMPRESSOR" ∷ codes "PAYLOADFLAGS" ∷ []) ++
+    from 1122 (codes "OPTFLAGS" ∷ codes "DISTURL" ∷ codes "PAYLOADFORMAT" ∷ codes "PAYLOADCOMPRESSOR"
+    ∷ codes "PAYLOADFLAGS" ∷ []) ++
     from 1128 (codes "INSTALLTID" ∷ []) ++
     from 1132 (codes "PLATFORM" ∷ []) ++
     from 5046 (codes "RECOMMENDNAME" ∷ codes "RECOMMENDVERSION" ∷ codes "RECOMMENDFLAGS" ∷ []) ++
-    ((Nvr, codes "NVR") ∷ (Nvra, codes "NVRA") ∷ (Evr, codes "EVR") ∷ (Nevra, codes "NEVRA") ∷ (Epochnum, codes "EPOCHNUM") ∷
+    ((Nvr, codes "NVR") ∷ (Nvra, codes "NVRA") ∷ (Evr, codes "EVR") ∷ (Nevra, codes "NEVRA")
+    ∷ (Epochnum, codes "EPOCHNUM") ∷
     (Filenames, codes "FILENAMES") ∷ (Dbinstance, codes "DBINSTANCE") ∷ [])
 
 -- ---- a name

@@ -1,10 +1,11 @@
 -- What a tag's value is in a header.
-use Rattle.std.specs.Prelude.{ℕ, Bool, List, [], ◌∷◌, ◌++◌, codes, decimal, Option, Some, None, length, take, slice_get, map, ◌==◌, ◌&&◌, nat_lt, if◌then◌else◌, unwrap_or}
+use Rattle.std.specs.Prelude.{ℕ, Bool, List, [], ◌∷◌, ◌++◌, codes, decimal, Option, Some, None, length, take, slice_get}
+use Rattle.std.specs.Prelude.{map, ◌==◌, ◌&&◌, nat_lt, if◌then◌else◌, unwrap_or}
 use Rattle.std.specs.Option.{option_and_then}
 use Rattle.std.specs.List.{concat, list_all, zip}
 use Rattle.rpm_header.specs.declared.form.Form.{Form}
 use Rattle.rpm_header.specs.declared.form.Form.TheVariants as form
-use Rattle.rpm_header.specs.Header.{Header, Item, Values, last_of, numbers_of, texts_of, bytes_of}
+use Rattle.rpm_header.specs.Header.{Header, Item, Values, last_of, numbers_of, texts_of, bin_bytes}
 use Rattle.rpm_tags.specs.Numbers.{NAME, VERSION, RELEASE, EPOCH, ARCH, DIRINDEXES, BASENAMES, DIRNAMES}
 use Rattle.rpm_tags.specs.declared.tag.Tag.{Tag}
 use Rattle.rpm_tags.specs.declared.tag.Tag.TheVariants.{Stored, Nvra, Nevra, Evr, Nvr, Epochnum, Filenames, Dbinstance}
@@ -42,16 +43,16 @@ text_list (TextList ts) = ts
 text_list _ = []
 
 -- the bytes of a blob, and none of another class
-abbrev pub blob_of : Elements → List ℕ
-blob_of (OneBlob bs) = bs
-blob_of _ = []
+abbrev pub blob_elements : Elements → List ℕ
+blob_elements (OneBlob bs) = bs
+blob_elements _ = []
 
 -- ---- stored tags
 
 -- an entry's values have these elements by its form; an I18n has its first text alone
 abbrev pub elements_by : Form → Values → Option Elements
 elements_by form.Null v = None
-elements_by form.Bin v = Some (OneBlob (bytes_of v))
+elements_by form.Bin v = Some (OneBlob (bin_bytes v))
 elements_by form.Text v = Some (TextList (texts_of v))
 elements_by form.Texts v = Some (TextList (texts_of v))
 elements_by form.I18n v = Some (TextList (take 1 (texts_of v)))
@@ -62,8 +63,8 @@ abbrev pub elements : Item → Option Elements
 elements e = elements_by e.form e.values
 
 -- a header has this under a tag: what the last of several entries of the tag has
-unfoldable pub stored : Header → ℕ → Option Elements
-stored h tag = option_and_then elements (last_of tag h.entries)
+unfoldable pub stored_value : Header → ℕ → Option Elements
+stored_value h tag = option_and_then elements (last_of tag h.entries)
 
 -- ---- the elements of a tag, where it is of that class
 
@@ -79,11 +80,11 @@ if_numbers _ = None
 
 -- the texts of a tag in a header
 unfoldable pub texts_in : Header → ℕ → Option (List (List ℕ))
-texts_in h tag = if_texts (stored h tag)
+texts_in h tag = if_texts (stored_value h tag)
 
 -- the numbers of a tag in a header
 unfoldable pub numbers_in : Header → ℕ → Option (List ℕ)
-numbers_in h tag = if_numbers (stored h tag)
+numbers_in h tag = if_numbers (stored_value h tag)
 
 -- the first text of a tag in a header
 unfoldable pub first_text : Header → ℕ → Option (List ℕ)
@@ -114,12 +115,13 @@ abbrev pub name_parts : List ℕ → List (List ℕ)
 name_parts n = n ∷ codes "-" ∷ []
 
 -- epoch, version and release, where the latter two are there
-abbrev pub evr : Option ℕ → Option (List ℕ) → Option (List ℕ) → Option (List (List ℕ))
-evr e (Some v) (Some r) = Some (epoch_parts e ++ release_parts v r)
-evr e _ _ = None
+abbrev pub evr_text : Option ℕ → Option (List ℕ) → Option (List ℕ) → Option (List (List ℕ))
+evr_text e (Some v) (Some r) = Some (epoch_parts e ++ release_parts v r)
+evr_text e _ _ = None
 
 -- a package's label is its name, version and release, with an epoch and an architecture where these are given
-abbrev pub label : Option (List ℕ) → Option ℕ → Option (List ℕ) → Option (List ℕ) → Option (List ℕ) → Option (List (List ℕ))
+abbrev pub label : Option (List ℕ) → Option ℕ → Option (List ℕ) → Option (List ℕ) → Option (List ℕ)
+    → Option (List (List ℕ))
 label (Some n) e (Some v) (Some r) a = Some (name_parts n ++ epoch_parts e ++ release_parts v r ++ arch_parts a)
 label _ e _ _ a = None
 
@@ -144,7 +146,8 @@ file_names dirs indexes bases = map (file_name dirs) (zip indexes bases)
 
 -- an index for each file, and a directory for each index
 abbrev pub are_matched : List (List ℕ) → List ℕ → List (List ℕ) → Bool
-are_matched dirs indexes bases = length bases == length indexes && list_all (λ index. nat_lt index (length dirs)) indexes
+are_matched dirs indexes bases =
+    length bases == length indexes && list_all (λ index. nat_lt index (length dirs)) indexes
 
 -- the paths of the files, where the three tags are there and match
 abbrev pub filenames : Option (List (List ℕ)) → Option (List ℕ) → Option (List (List ℕ)) → Option (List (List ℕ))
@@ -161,11 +164,15 @@ if_some_texts (Some ts) = Some (TextList ts)
 
 -- the value of a tag in the header of the package with this number
 abbrev pub value : Header → ℕ → Tag → Option Elements
-value h number (Stored tag) = stored h tag
+value h number (Stored tag) = stored_value h tag
 value h number Nvr = as_text (label (first_text h NAME) None (first_text h VERSION) (first_text h RELEASE) None)
-value h number Nvra = as_text (label (first_text h NAME) None (first_text h VERSION) (first_text h RELEASE) (first_text h ARCH))
-value h number Evr = as_text (evr (first_number h EPOCH) (first_text h VERSION) (first_text h RELEASE))
-value h number Nevra = as_text (label (first_text h NAME) (first_number h EPOCH) (first_text h VERSION) (first_text h RELEASE) (first_text h ARCH))
+value h number Nvra =
+    as_text (label (first_text h NAME) None (first_text h VERSION) (first_text h RELEASE) (first_text h ARCH))
+value h number Evr = as_text (evr_text (first_number h EPOCH) (first_text h VERSION) (first_text h RELEASE))
+value h number Nevra =
+    as_text (label (first_text h NAME) (first_number h EPOCH) (first_text h VERSION) (first_text h RELEASE)
+    (first_text h ARCH))
 value h number Epochnum = Some (NumberList (unwrap_or (first_number h EPOCH) 0 ∷ []))
-value h number Filenames = if_some_texts (filenames (texts_in h DIRNAMES) (numbers_in h DIRINDEXES) (texts_in h BASENAMES))
+value h number Filenames =
+    if_some_texts (filenames (texts_in h DIRNAMES) (numbers_in h DIRINDEXES) (texts_in h BASENAMES))
 value h number Dbinstance = Some (NumberList (number ∷ []))

@@ -29,20 +29,21 @@ any_counts_for path _ _ = false
 -- an element of FILENAMES counts for this path
 unfoldable pub has_file : Header → List ℕ → Bool
 has_file h path =
-    any_counts_for path (filenames (texts_in h DIRNAMES) (numbers_in h DIRINDEXES) (texts_in h BASENAMES)) (texts_in h BASENAMES)
+    any_counts_for path (filenames (texts_in h DIRNAMES) (numbers_in h DIRINDEXES) (texts_in h BASENAMES))
+    (texts_in h BASENAMES)
 
 -- ---- what is needed or given
 
 -- a name with the flags and the version beside it
-pub record Needed : Type 0 where
+pub record Need : Type 0 where
   pub name : List ℕ
   pub flags : ℕ
   pub version : List ℕ
 
 -- the elements of a list, and none where it is missing
-abbrev pub listed : {X : Type 0} → Option (List X) → List X
-listed None = []
-listed (Some xs) = xs
+abbrev pub list_or_empty : {X : Type 0} → Option (List X) → List X
+list_or_empty None = []
+list_or_empty (Some xs) = xs
 
 -- the first element, or another where there is none
 abbrev pub first_or : {X : Type 0} → X → List X → X
@@ -50,11 +51,13 @@ first_or other [] = other
 first_or other (x ∷ xs) = x
 
 -- each name with the flags and the version at its place, which are 0 and the empty text where the lists are too short
-abbrev pub beside : List (List ℕ) → List ℕ → List (List ℕ) → List Needed
+abbrev pub beside : List (List ℕ) → List ℕ → List (List ℕ) → List Need
 beside [] flags versions = []
 beside (name ∷ names) flags versions =
-    record { name = name; flags = first_or 0 flags; version = first_or [] versions } ∷ beside names (drop 1 flags) (drop 1 versions)
+    record { name = name; flags = first_or 0 flags; version = first_or [] versions }
+    ∷ beside names (drop 1 flags) (drop 1 versions)
 
 -- arrays that are missing or of another class are empty
-unfoldable pub dependencies : Tags → Header → List Needed
-dependencies tags h = beside (listed (texts_in h tags.names)) (listed (numbers_in h tags.flags)) (listed (texts_in h tags.versions))
+unfoldable pub dependencies : Tags → Header → List Need
+dependencies tags h = beside (list_or_empty (texts_in h tags.names)) (list_or_empty (numbers_in h tags.flags))
+    (list_or_empty (texts_in h tags.versions))

@@ -1,7 +1,7 @@
 //! The keys by which a package is found.
 
 ghost use Rattle.std.specs.Prelude.{◌≡◌, ℕ, ◌+◌, ◌^◌, ◌<◌, ◌∷◌, [], map, MatchOption, List};
-ghost use Rattle.rpm_tags.specs.Prelude.{item_count, key_bytes, key_list, keys, keys_left, KeysHavePlaces, listed, number_key, placed, tag_of_kind, YieldsFirstBy};
+ghost use Rattle.rpm_tags.specs.Prelude.{item_count, key_bytes, key_list, keys, keys_left, KeysHavePlaces, list_or_empty, number_key, placed_keys, tag_of_kind, YieldsFirstBy};
 
 use crate::kind::Kind;
 use crate::numbers;
@@ -64,7 +64,7 @@ enum KeySource<'a> {
 
 impl<'a> KeySource<'a> {
     fn texts(texts: Option<Texts<'a>>) -> KeySource<'a>
-        ensures value { keys_left result ≡ listed texts.entry }
+        ensures value { keys_left result ≡ list_or_empty texts.entry }
         ensures few { KeysHavePlaces result 0 }
     {
         match texts {
@@ -77,7 +77,7 @@ impl<'a> KeySource<'a> {
     }
 
     fn numbers(numbers: Option<Numbers<'a>>) -> KeySource<'a>
-        ensures value { keys_left result ≡ map number_key (listed numbers.entry) }
+        ensures value { keys_left result ≡ map number_key (list_or_empty numbers.entry) }
         ensures few { KeysHavePlaces result 0 }
     {
         match numbers {
@@ -125,7 +125,7 @@ pub struct KeyIter<'a> {
 impl<'a> Model for KeyIter<'a> {
     ghost Value = { List (List ℕ × ℕ) };
 
-    ghost view = { λ s. placed (keys_left s.source) s.place };
+    ghost view = { λ s. placed_keys (keys_left s.source) s.place };
 
     ghost invariant = { λ s. KeysHavePlaces s.source s.place };
 }

@@ -1,7 +1,7 @@
 //! The texts that are made of a package's name, epoch, version, release and architecture.
 
 ghost use Rattle.std.specs.Prelude.{◌≡◌, ℕ, ◌+◌, ◌≤◌, ◌<◌, ◌++◌, length, IfSome};
-ghost use Rattle.rpm_tags.specs.Prelude.{arch_parts, EPOCH, epoch_parts, evr, first_number, first_text, label, max_data, NAME, name_parts, option_copied, RELEASE, release_parts, VERSION};
+ghost use Rattle.rpm_tags.specs.Prelude.{arch_parts, EPOCH, epoch_parts, evr_text, first_number, first_text, label, max_data, NAME, name_parts, option_copied, RELEASE, release_parts, VERSION};
 
 use crate::joined::Joined;
 use crate::numbers::{EPOCH, NAME, RELEASE, VERSION};
@@ -71,7 +71,7 @@ pub fn label<'a>(view: &View<'a>, epoch: Option<u64>, arch: Option<&'a [u8]>) ->
 
 /// `E:V-R`.
 pub fn evr<'a>(view: &View<'a>) -> Option<Joined<'a>>
-    ensures { result ≡ evr (first_number view.now EPOCH) (first_text view.now VERSION) (first_text view.now RELEASE) }
+    ensures { result ≡ evr_text (first_number view.now EPOCH) (first_text view.now VERSION) (first_text view.now RELEASE) }
 {
     let version = first_text(view, VERSION)?;
     let release = first_text(view, RELEASE)?;

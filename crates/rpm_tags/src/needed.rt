@@ -1,7 +1,7 @@
 //! What a package needs or gives: names, each with flags and a version beside it.
 
 ghost use Rattle.std.specs.Prelude.{◌≡◌, [], drop, slice_get, List};
-ghost use Rattle.rpm_tags.specs.Prelude.{beside, dependencies, first_or, item_count, listed, NamesHavePlaces, Needed, option_copied, YieldsFirstBy};
+ghost use Rattle.rpm_tags.specs.Prelude.{beside, dependencies, first_or, item_count, list_or_empty, NamesHavePlaces, Need, option_copied, YieldsFirstBy};
 
 use crate::stored::{Numbers, TextIter, numbers_in, texts_in};
 use rpm_header::View;
@@ -33,17 +33,17 @@ pub struct DependencyIter<'a> {
 }
 
 impl<'a> Model for DependencyIter<'a> {
-    ghost Value = { List Needed };
+    ghost Value = { List Need };
 
-    ghost view = { λ s. beside (listed s.names) (drop s.place (listed s.flags)) (listed s.versions) };
+    ghost view = { λ s. beside (list_or_empty s.names) (drop s.place (list_or_empty s.flags)) (list_or_empty s.versions) };
 
     ghost invariant = { λ s. NamesHavePlaces s.names s.place };
 }
 
 /// The next of some texts, where there are texts.
 fn take_text<'a>(texts: &mut Option<TextIter<'a>>) -> Option<&'a [u8]>
-    ensures value { option_copied result ≡ slice_get (listed texts.old) 0 }
-    ensures left { listed texts.new ≡ drop 1 (listed texts.old) }
+    ensures value { option_copied result ≡ slice_get (list_or_empty texts.old) 0 }
+    ensures left { list_or_empty texts.new ≡ drop 1 (list_or_empty texts.old) }
 {
     match texts {
         None => None,
@@ -53,8 +53,8 @@ fn take_text<'a>(texts: &mut Option<TextIter<'a>>) -> Option<&'a [u8]>
 
 /// The next of some texts, or the empty text.
 fn take_or_empty<'a>(texts: &mut Option<TextIter<'a>>) -> &'a [u8]
-    ensures value { result.now ≡ first_or [] (listed texts.old) }
-    ensures left { listed texts.new ≡ drop 1 (listed texts.old) }
+    ensures value { result.now ≡ first_or [] (list_or_empty texts.old) }
+    ensures left { list_or_empty texts.new ≡ drop 1 (list_or_empty texts.old) }
 {
     match take_text(texts) {
         None => &[],
@@ -64,7 +64,7 @@ fn take_or_empty<'a>(texts: &mut Option<TextIter<'a>>) -> &'a [u8]
 
 /// The number at a place, or 0.
 fn number_at(numbers: &Option<Numbers<'_>>, place: u32) -> u64
-    ensures { result ≡ first_or 0 (drop place (listed numbers.now)) }
+    ensures { result ≡ first_or 0 (drop place (list_or_empty numbers.now)) }
 {
     match numbers {
         Some(numbers) if place < numbers.count() => numbers.number(place),

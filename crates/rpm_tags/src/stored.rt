@@ -1,7 +1,7 @@
 //! The elements of one entry, by their class.
 
 ghost use Rattle.std.specs.Prelude.{◌≡◌, ℕ, ◌<◌, ◌≤◌, length, Some, slice_get, All, IfSome, take};
-ghost use Rattle.rpm_tags.specs.Prelude.{elements, first_number, first_text, item_count, max_data, numbers_in, option_copied, option_map, stored, stored_elements, texts_in, YieldsFirst, YieldsFirstRef};
+ghost use Rattle.rpm_tags.specs.Prelude.{elements, first_number, first_text, item_count, max_data, numbers_in, option_copied, option_map, stored_value, stored_elements, texts_in, YieldsFirst, YieldsFirstRef};
 
 use rpm_header::{Entry, EntryTexts, Form, PlacesRoom, TextPlaces, View};
 use std::marker::Model;
@@ -206,9 +206,9 @@ fn elements(entry: Entry<'_>) -> Option<Stored<'_>>
 }
 
 /// The elements of a tag's last entry; None where it has none or is a `Null`.
-#[tactic(auto, unfolding(crate::specs::Value::stored))]
+#[tactic(auto, unfolding(crate::specs::Value::stored_value))]
 pub fn find_stored<'a>(view: &View<'a>, tag: u32) -> Option<Stored<'a>>
-    ensures { option_map stored_elements result ≡ stored view.now tag }
+    ensures { option_map stored_elements result ≡ stored_value view.now tag }
 {
     elements(view.find(tag)?)
 }

@@ -1,7 +1,7 @@
 //! The texts of a value, one after the other.
 
 ghost use Rattle.std.specs.Prelude.{◌≡◌, ℕ, ◌≤◌, [], ◌∷◌, length, All, List};
-ghost use Rattle.rpm_tags.specs.Prelude.{concat, IsLeft, item_count, max_data, texts_left, YieldsFirstBy};
+ghost use Rattle.rpm_tags.specs.Prelude.{concat, IsPartLeft, item_count, max_data, texts_left, YieldsFirstBy};
 
 use crate::files::FileIter;
 use crate::joined::Joined;
@@ -26,7 +26,7 @@ impl<'v, 'a> Model for ValueTexts<'v, 'a> {
 
     ghost view = { λ s. texts_left s.left };
 
-    ghost invariant = { λ s. IsLeft s.left };
+    ghost invariant = { λ s. IsPartLeft s.left };
 }
 
 impl<'v, 'a> ValueTexts<'v, 'a> {

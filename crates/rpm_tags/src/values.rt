@@ -1,7 +1,7 @@
 //! The value of a tag in a header.
 
 ghost use Rattle.std.specs.Prelude.{◌≡◌, ℕ, ◌<◌, IsTrue, Some, slice_get};
-ghost use Rattle.rpm_tags.specs.Prelude.{blob_of, class_of, concat, count_of, Elements, number_list, source_elements, text_list, value};
+ghost use Rattle.rpm_tags.specs.Prelude.{blob_elements, class_of, concat, count_of, Elements, number_list, source_elements, text_list, value};
 
 use crate::files::{Files, files_in};
 use crate::joined::Joined;
@@ -143,7 +143,7 @@ impl<'a> TagValue<'a> {
     /// The bytes of a blob, borrowed from the header. Reads none of them.
     pub fn blob(&self) -> &'a [u8]
         requires { class_of self.now ≡ Class.Blob }
-        ensures { result.now ≡ blob_of self.now }
+        ensures { result.now ≡ blob_elements self.now }
     {
         match &self.source {
             Source::Stored(Stored::Blob(bytes)) => bytes,

@@ -2,7 +2,7 @@
 use Rattle.std.proofs.Common.{◌≡◌, ℕ, Bool, ◌&&◌, true, false, subst, if◌then◌else◌, List, [], ◌∷◌, Option, Some, None, is_some, Result, Ok, Err, refl}
 use Rattle.rpm_tool.proofs.Vocabulary.{AllByRecursion, AreQuestions, ask, AskParts, BadCapability, capability, capability_in, CapabilityParts, Chosen}
 use Rattle.rpm_tool.proofs.Vocabulary.{fit_arguments, is_err, is_none, is_package, is_query, is_question, IsFit, Mode, number, of_files, option_map}
-use Rattle.rpm_tool.proofs.Vocabulary.{Selection, text_at, WordsFault}
+use Rattle.rpm_tool.proofs.Vocabulary.{Selection, word_at, WordsFault}
 use Rattle.rpm_words.specs.declared.switch.Chosen.TheVariants as by
 use Rattle.rpm_words.specs.declared.ask.Mode.TheVariants as mode
 
@@ -20,15 +20,15 @@ a_number of (Some n) f none = refl
 a_number of None f none = absurd cc
 
 question_here : (words : List (List ℕ)) (c : Chosen) (w : ℕ) → (c ≡ by.Package → ⊥) → IsFit words c w
-    → is_question c (text_at words w) ≡ true
+    → is_question c (word_at words w) ≡ true
 question_here words by.Package w other none = absurd (other refl)
-question_here words by.Provides w other none = a_capability _ (capability (text_at words w)) _ none
-question_here words by.Requires w other none = a_capability _ (capability (text_at words w)) _ none
-question_here words by.Conflicts w other none = a_capability _ (capability (text_at words w)) _ none
-question_here words by.Obsoletes w other none = a_capability _ (capability (text_at words w)) _ none
-question_here words by.Number w other none = a_number _ (number (text_at words w)) _ none
-question_here words by.Tid w other none = a_number _ (number (text_at words w)) _ none
-question_here words by.Recommends w other none = a_capability _ (capability (text_at words w)) _ none
+question_here words by.Provides w other none = a_capability _ (capability (word_at words w)) _ none
+question_here words by.Requires w other none = a_capability _ (capability (word_at words w)) _ none
+question_here words by.Conflicts w other none = a_capability _ (capability (word_at words w)) _ none
+question_here words by.Obsoletes w other none = a_capability _ (capability (word_at words w)) _ none
+question_here words by.Number w other none = a_number _ (number (word_at words w)) _ none
+question_here words by.Tid w other none = a_number _ (number (word_at words w)) _ none
+question_here words by.Recommends w other none = a_capability _ (capability (word_at words w)) _ none
 question_here words others w other none = refl
 
 query_mode : (m : Mode) → is_query m ≡ true → m ≡ mode.Query
@@ -42,6 +42,6 @@ no_package m c query none same =
 
 pub questions : (words : List (List ℕ)) (a : AskParts) → ask words ≡ Ok a → is_query a.mode ≡ true → of_files a ≡ false → AreQuestions words a
 questions words a is query files =
-    each_then {P = IsFit words a.chosen} {Q = λ w. is_question a.chosen (text_at words w) ≡ true}
+    each_then {P = IsFit words a.chosen} {Q = λ w. is_question a.chosen (word_at words w) ≡ true}
     (λ w fit. question_here words a.chosen w (no_package a.mode a.chosen query files) fit) a.arguments
     (fit_arguments words a is (query_mode a.mode query))

@@ -1,15 +1,15 @@
 -- Commands that were begun, and one that was not.
 use Rattle.std.proofs.Common.{◌≡◌, ◌∙◌, ℕ, ◌+◌, ◌≤◌, Bool, true, false, not, List, [], Some, refl, sym, ap}
 use Rattle.std.proofs.lemmas.Bool.{and_parts}
-use Rattle.rpm_tool.proofs.Vocabulary.{AskParts, by_key, Chosen, deed_of, PlainProgress, Files, is_changing, is_changing_in, is_foreign, is_of_words, is_package}
+use Rattle.rpm_tool.proofs.Vocabulary.{AskParts, by_key, Chosen, request_of, PlainProgress, Files, is_changing, is_changing_in, is_foreign, is_of_words, is_package}
 use Rattle.rpm_tool.proofs.Vocabulary.{is_query, log_state, Mode, needs_no_index, of_files, opens_index, outputs, PlainAnswer, read_to, reopened, store, Through}
 use Rattle.rpm_tool.proofs.Vocabulary.{text_of, Tree, Why}
 use Rattle.rpm_words.specs.declared.switch.Chosen.TheVariants as by
 use Rattle.rpm_words.specs.declared.ask.Mode.TheVariants as mode
 use Rattle.rpm_effects.specs.declared.answer.Why.TheVariants as why
-use Rattle.rpm_tool.proofs.Deeds.{does_memory}
+use Rattle.rpm_tool.proofs.Requests.{does_memory}
 use Rattle.rpm_tool.proofs.Loading.{loaded_memory}
-use Rattle.rpm_effects.specs.inner.Reaching.{through_none}
+use Rattle.rpm_effects.specs.laws.Reaching.{through_none}
 
 -- where memory was wanting before, its database has not been opened
 pub not_begun : (tree : Tree) (words : List (List ℕ)) (a : AskParts) (files : Files) (out_tells err_tells : Bool) (o e : List ℕ) (n : ℕ)
@@ -19,7 +19,7 @@ not_begun tree words a files ot et o e n =
     let x = outputs ot o et e in
     let none : Through [] x x = through_none {ot = ot} {et = et} o e in
     loaded_memory (PlainProgress tree words a file n n) (store file) x none
-    (λ s. does_memory tree file s words a (λ for. n ≤ n + read_to file words a s for) x none (deed_of a.mode)) (log_state files.log)
+    (λ s. does_memory tree file s words a (λ for. n ≤ n + read_to file words a s for) x none (request_of a.mode)) (log_state files.log)
 
 -- ---- a text is printed of no other command
 

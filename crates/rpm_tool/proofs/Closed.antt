@@ -2,8 +2,8 @@
 use Rattle.std.proofs.Common.{◌≡◌, ◌≤◌, List, ℕ, Result, sym, ◌∙◌, subst}
 use Rattle.std.proofs.Math.Nat.{le_trans}
 use Rattle.rpm_outside.specs.declared.sink.Sink as sink
-use Rattle.rpm_tool.proofs.Vocabulary.{Closes, Ends, HasCauseAt, Outputs, outs, Writes}
-use Rattle.rpm_print.specs.inner.Printing.{closes_of}
+use Rattle.rpm_tool.proofs.Vocabulary.{Closes, ClosingEnding, HasCauseAt, Outputs, outs, Writes}
+use Rattle.rpm_print.specs.laws.Printing.{closes_of}
 
 module _ {T F O E : Type 0} (o : sink.Ghosts O) (e : sink.Ghosts E) (line : List ℕ) (result : Result T F) (out out_new : O)
     (start mid late err err_new : E) (first : start ≡ err) (later : e.faults start ≤ e.faults mid) (closing : Writes e mid late line result)
@@ -18,7 +18,7 @@ module _ {T F O E : Type 0} (o : sink.Ghosts O) (e : sink.Ghosts E) (line : List
       (closes_of e (e.faults err) mid late line result o.tells (o.taken out) risen closing))
 
   -- where this was done before it
-  pub ended : (Did : Outputs → Type 0) → Did (outs o e out mid) → Ends Did line (outs o e out_new err_new) (e.faults err) (e.faults err_new)
+  pub ended : (Did : Outputs → Type 0) → Did (outs o e out mid) → ClosingEnding Did line (outs o e out_new err_new) (e.faults err) (e.faults err_new)
   ended Did did = record { mid = outs o e out mid; did = did; closes = closed }
 
 -- a sink that is handed back as it was

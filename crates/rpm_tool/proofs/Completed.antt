@@ -1,12 +1,12 @@
 -- Where nothing in the files keeps a question from being answered, it is answered.
 use Rattle.std.proofs.Common.{◌≡◌, ℕ, ◌+◌, ◌^◌, ◌≤◌, Bool, true, false, List, Result, Ok, subst, arith}
-use Rattle.rpm_tool.proofs.Vocabulary.{AskParts, Damage, deed_of, Deeds, KeyedProgress, Files, FullByUnits, IndexFullIs, HasRoom, is_done_or_outside}
+use Rattle.rpm_tool.proofs.Vocabulary.{AskParts, Damage, request_of, StoreAnswerBy, KeyedProgress, Files, FullByUnits, IndexFullIs, HasRoom, is_done_or_outside}
 use Rattle.rpm_tool.proofs.Vocabulary.{is_foreign, IsSound, IsUsable, IsUsableDatabase, keyed_to, KeyedAnswer, LogAnswer, log_state, LogState, Malformed, OnUsable}
 use Rattle.rpm_tool.proofs.Vocabulary.{StoreAnswer, Outputs, reopened, Store, store, Tree, UnlessFull, Why}
 use Rattle.rpm_effects.specs.declared.answer.Why.TheVariants as why
-use Rattle.rpm_tool.proofs.Deeds.{does_outside}
+use Rattle.rpm_tool.proofs.Requests.{does_outside}
 
-module _ (Usable : Type 0) (Do : Deeds) (s : Store) (w : Why) (old new : Outputs) where
+module _ (Usable : Type 0) (Do : StoreAnswerBy) (s : Store) (w : Why) (old new : Outputs) where
   loaded_in : (log : LogState) (r : Result Store Damage) → IsSound log → r ≡ Ok s → LogAnswer (OnUsable Usable Do) r log w old new
       → OnUsable Usable Do s w old new
   loaded_in (Malformed unit) r sound is loaded = absurd sound
@@ -27,5 +27,5 @@ completes tree words a files w old new before now own went full group room =
     let Do = KeyedProgress tree words a r before now in
     let is = loaded_in (IsUsable r.pkg r.idx) Do s w old new (log_state files.log) (store r.pkg) group.sound group.usable.undamaged went in
     left (Do s) _ _ w old new
-    (λ does. does_outside tree r.pkg s words a (λ for. now ≤ before + keyed_to r words a s for) old new (deed_of a.mode) w own does)
+    (λ does. does_outside tree r.pkg s words a (λ for. now ≤ before + keyed_to r words a s for) old new (request_of a.mode) w own does)
     (is.1 group.usable) full room

@@ -2,7 +2,7 @@ mod Arguments
 mod Begun
 mod Closed
 mod Completed
-mod Deeds
+mod Requests
 mod Endings
 mod Faults
 mod Loading

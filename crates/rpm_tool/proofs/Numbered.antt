@@ -3,37 +3,37 @@ use Rattle.std.proofs.Common.{◌≡◌, ℕ, ◌+◌, Bool, true, false, cond, 
 use Rattle.std.proofs.lemmas.List.{append-nil}
 use Rattle.std.proofs.lemmas.List.Elements.{filter-append}
 use Rattle.std.proofs.lemmas.Bool.Decides.{nat_tests}
-use Rattle.rpm_tool.proofs.Vocabulary.{above, answered, argument_part, Bearer, Chosen, is_picked, lent, missing_part, nat_cmp, Package, picked, picked_by}
+use Rattle.rpm_tool.proofs.Vocabulary.{above, answered_part, argument_part, Bearer, Chosen, is_picked, lent, missing_part, nat_cmp, Package, picked_packages, picked_by}
 use Rattle.rpm_tool.proofs.Vocabulary.{picks, query_of, question_of, RisesFrom, Selection, step_of, Tree, with_number}
 use Rattle.std.specs.FinMap as finite
 use Rattle.rpm_words.specs.declared.switch.Chosen.TheVariants as by
 use Rattle.rpm_select.specs.declared.selection.Selection.TheVariants as question
 use Rattle.rpm_effects.specs.Steps.{Step, bearer_of}
-use Rattle.rpm_effects.specs.Portions.{parts_in_turn, numbers}
-use Rattle.rpm_tool.specs.Deeds.{is_above, steps_above}
-use Rattle.rpm_print.specs.inner.Printed.{bearer-step_of}
-use Rattle.rpm_query.specs.inner.Rising.{rises_above}
+use Rattle.rpm_effects.specs.Portions.{parts_in_turn, numbers_of_steps}
+use Rattle.rpm_tool.specs.Requests.{is_above, steps_above}
+use Rattle.rpm_print.specs.laws.Printed.{bearer-step_of}
+use Rattle.rpm_query.specs.laws.Rising.{rises_above}
 
-told_numbers : (tree : Tree) (j : ℕ) (es : List (ℕ × Package)) → numbers (map (step_of tree j) es) ≡ map (λ e. e.0) es
+told_numbers : (tree : Tree) (j : ℕ) (es : List (ℕ × Package)) → numbers_of_steps (map (step_of tree j) es) ≡ map (λ e. e.0) es
 told_numbers tree j [] = refl
 told_numbers tree j (e ∷ es) =
-    ap (λ (b : Bearer). with_number b.number (numbers (map (step_of tree j) es))) (bearer-step_of tree j e)
+    ap (λ (b : Bearer). with_number b.number (numbers_of_steps (map (step_of tree j) es))) (bearer-step_of tree j e)
     ∙ ap (λ (ns : List ℕ). e.0 ∷ ns) (told_numbers tree j es)
 
-missing_numbers : (chosen : Chosen) (j : ℕ) (text : List ℕ) → numbers (missing_part chosen j text).steps ≡ []
+missing_numbers : (chosen : Chosen) (j : ℕ) (text : List ℕ) → numbers_of_steps (missing_part chosen j text).steps ≡ []
 unfolding missing_part
 missing_numbers by.Label j text = refl
 missing_numbers others j text = refl
 
 answered_numbers : (tree : Tree) (chosen : Chosen) (after j : ℕ) (text : List ℕ) (es : List (ℕ × Package))
-    → numbers (answered tree chosen after j text es).steps ≡ map (λ e. e.0) (above after es)
+    → numbers_of_steps (answered_part tree chosen after j text es).steps ≡ map (λ e. e.0) (above after es)
 answered_numbers tree chosen after j text [] = missing_numbers chosen j text
 answered_numbers tree chosen after j text (e ∷ es) = told_numbers tree j (above after (e ∷ es))
 
 -- they are those of the picked packages above `--after`
 pub argument_numbers : (tree : Tree) (packages : finite.FinMap nat_cmp Package) (chosen : Chosen) (after j : ℕ) (text : List ℕ)
-    → numbers (argument_part tree packages chosen after j text).steps ≡ map (λ e. e.0) (above after (picked packages chosen text))
-argument_numbers tree packages chosen after j text = answered_numbers tree chosen after j text (picked packages chosen text)
+    → numbers_of_steps (argument_part tree packages chosen after j text).steps ≡ map (λ e. e.0) (above after (picked_packages packages chosen text))
+argument_numbers tree packages chosen after j text = answered_numbers tree chosen after j text (picked_packages packages chosen text)
 
 by_rises : (packages : finite.FinMap nat_cmp Package) (question : Option Selection) (after : ℕ)
     → RisesFrom after (map (λ e. e.0) (above after (picked_by packages question)))
@@ -43,15 +43,15 @@ by_rises packages (Some sel) after = rises_above (is_picked sel) after (finite.e
 
 -- each once and rising
 pub picked_rises : (packages : finite.FinMap nat_cmp Package) (chosen : Chosen) (text : List ℕ) (after : ℕ)
-    → RisesFrom after (map (λ e. e.0) (above after (picked packages chosen text)))
-unfolding picked
+    → RisesFrom after (map (λ e. e.0) (above after (picked_packages packages chosen text)))
+unfolding picked_packages
 picked_rises packages chosen text after = by_rises packages (question_of chosen (lent text)) after
 
 -- those of a query without arguments
 pub whole_numbers : (tree : Tree) (packages : finite.FinMap nat_cmp Package) (chosen : Chosen) (after : ℕ)
-    → numbers (query_of tree packages chosen after []).steps ≡ map (λ e. e.0) (above after (picks packages question.All))
+    → numbers_of_steps (query_of tree packages chosen after []).steps ≡ map (λ e. e.0) (above after (picks packages question.All))
 whole_numbers tree packages chosen after =
-    ap numbers (append-nil (map (step_of tree 0) (above after (picks packages question.All))))
+    ap numbers_of_steps (append-nil (map (step_of tree 0) (above after (picks packages question.All))))
     ∙ told_numbers tree 0 (above after (picks packages question.All))
 
 pub all_rise : (packages : finite.FinMap nat_cmp Package) (after : ℕ) → RisesFrom after (map (λ e. e.0) (above after (picks packages question.All)))
@@ -86,7 +86,7 @@ module _ (tree : Tree) (after : ℕ) where
   missing_above others j text = refl
 
   answered_above : (chosen : Chosen) (j : ℕ) (text : List ℕ) (es : List (ℕ × Package))
-      → (answered tree chosen after j text es).steps ≡ steps_above after (answered tree chosen 0 j text es).steps
+      → (answered_part tree chosen after j text es).steps ≡ steps_above after (answered_part tree chosen 0 j text es).steps
   answered_above chosen j text [] = missing_above chosen j text
   answered_above chosen j text (e ∷ es) = told_above j (e ∷ es)
 
@@ -104,7 +104,7 @@ module _ (tree : Tree) (after : ℕ) where
       (argument_part tree packages chosen 0 j text).steps
       (parts_in_turn (argument_part tree packages chosen after) (j + 1) texts).steps
       (parts_in_turn (argument_part tree packages chosen 0) (j + 1) texts).steps
-      (answered_above chosen j text (picked packages chosen text))
+      (answered_above chosen j text (picked_packages packages chosen text))
       (turn_above packages chosen (j + 1) texts)
 
   -- the steps of a query are those without `--after`, less those that bear a number up to it

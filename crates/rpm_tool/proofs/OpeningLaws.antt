@@ -1,21 +1,21 @@
 -- A database that is opened with its index, and then asked.
 use Rattle.rpm_tool.proofs.Vocabulary.{asked_reaches, AskParts, BadIs, Bearer, blank_unpaged, CauseIs, Database, Files, has_index, HasUsableIndex}
-use Rattle.rpm_tool.proofs.Vocabulary.{HasIndexRows, is_blank, is_indexed, IsOpened, IsUsable, kept_current, made_paged, must_make, no_index_rows}
-use Rattle.rpm_tool.proofs.Vocabulary.{packages, Peeks, Reach, reach_sum, reached_by, room, Runs, Store, store, unindexed, Units, Why}
+use Rattle.rpm_tool.proofs.Vocabulary.{HasIndexRows, is_blank_database, is_indexed, IsOpened, IsUsable, kept_current, made_paged, must_rebuild, no_index_rows}
+use Rattle.rpm_tool.proofs.Vocabulary.{packages, OnlyReadsIndexed, Reach, reach_sum, reached_by, store_of, Runs, Store, store, without_index, Units, Why}
 use Rattle.rpm_db.specs.Database.{IsIndexed}
 use Rattle.rpm_db.specs.Lawful.{HasRows, is_current_at}
 use Rattle.rpm_outside.specs.declared.disk.Disk as disk
-use Rattle.rpm_outside.specs.Frame.{LeavesIn}
+use Rattle.rpm_outside.specs.Frame.{CrashLeaves}
 use Rattle.std.proofs.Common.{◌≡◌, ℕ, ◌≤◌, Bool, true, false, not, List, Ok, refl, sym, ap, ◌∙◌, subst, inl, inr, arith}
 use Rattle.std.specs.Prelude.{IsTrue, ◌⊎◌}
 use Rattle.std.proofs.lemmas.Bool.{cases_Bool}
 use Rattle.rpm_effects.specs.declared.answer.Why.TheVariants as why
-use Rattle.rpm_query.specs.inner.Sums.{store_by, store_sum}
+use Rattle.rpm_query.specs.laws.Sums.{store_by, store_sum}
 
 -- ---- a run of calls that opened the database, and then looked things up
 
-module _ {D : Type 0} (d : disk.Ghosts D) {indexed : Bool} {a b c : D} (peeks : Peeks d indexed b c) where
-  pub leaves_peeks : {P : Files → Type 0} → IsTrue d.tells → LeavesIn d a b P → LeavesIn d a c P
+module _ {D : Type 0} (d : disk.Ghosts D) {indexed : Bool} {a b c : D} (peeks : OnlyReadsIndexed d indexed b c) where
+  pub leaves_peeks : {P : Files → Type 0} → IsTrue d.tells → CrashLeaves d a b P → CrashLeaves d a c P
   leaves_peeks told first = record {
     later = omega (arith, first.later, peeks.moment_stays);
     each = λ image is. first.each image ((peeks.untouched told).images (d.moment a) image is);
@@ -35,14 +35,15 @@ module _ {D : Type 0} (d : disk.Ghosts D) {indexed : Bool} {a b c : D} (peeks : 
 -- ---- what is read
 
 -- up to a step of an argument, and of all arguments: what a question by key goes over
-module _ (file : Units) (db : Database) (indexed : is_indexed db ≡ not (is_blank db)) (words : List (List ℕ)) (a : AskParts) where
+module _ (file : Units) (db : Database) (indexed : is_indexed db ≡ not (is_blank_database db)) (words : List (List ℕ)) (a : AskParts) where
   abbrev over : List Reach
-  over = asked_reaches (has_index (room db)) file (room db) words a
+  over = asked_reaches (has_index (store_of db)) file (store_of db) words a
 
-  pub keyed_by : (for : Bearer) → reached_by (asked_reaches (is_indexed db) file (room db) words a) db for ≤ reached_by over (unindexed (room db)) for
+  pub keyed_by : (for : Bearer) → reached_by (asked_reaches (is_indexed db) file (store_of db) words a) db for
+      ≤ reached_by over (without_index (store_of db)) for
   keyed_by for = rw indexed (omega (arith, store_by over db for))
 
-  pub keyed_sum : reach_sum (asked_reaches (is_indexed db) file (room db) words a) db ≤ reach_sum over (unindexed (room db))
+  pub keyed_sum : reach_sum (asked_reaches (is_indexed db) file (store_of db) words a) db ≤ reach_sum over (without_index (store_of db))
   keyed_sum = rw indexed (omega (arith, store_sum over db))
 
 -- ---- what opening says of the index
@@ -51,20 +52,21 @@ not_not : (b : Bool) → not b ≡ true → b ≡ false
 not_not true is = absurd cc
 not_not false is = refl
 
-module _ (old new : Files) (db : Database) (opened : IsOpened old new (Ok db)) (pkg : new.pkg ≡ old.pkg) (indexed : is_indexed db ≡ not (is_blank db)) where
-  not_blank : is_indexed db ≡ true → is_blank db ≡ false
-  not_blank some = not_not (is_blank db) (sym indexed ∙ some)
+module _ (old new : Files) (db : Database) (opened : IsOpened old new (Ok db)) (pkg : new.pkg ≡ old.pkg)
+    (indexed : is_indexed db ≡ not (is_blank_database db)) where
+  not_blank : is_indexed db ≡ true → is_blank_database db ≡ false
+  not_blank some = not_not (is_blank_database db) (sym indexed ∙ some)
 
   -- an index that is kept has the rows
-  module _ (some : is_blank db ≡ false) (usable : IsUsable old.pkg old.idx) where
-    room_is : usable.value ≡ room db
-    room_is = let both : Ok usable.value ≡ Ok (room db) = sym usable.undamaged ∙ opened.store_is in cc
+  module _ (some : is_blank_database db ≡ false) (usable : IsUsable old.pkg old.idx) where
+    room_is : usable.value ≡ store_of db
+    room_is = let both : Ok usable.value ≡ Ok (store_of db) = sym usable.undamaged ∙ opened.store_is in cc
 
-    paged_rows : ((room db).pages ≡ 0) ⊎ HasRows (packages old.pkg (room db)) old.idx → HasRows (packages old.pkg (room db)) old.idx
+    paged_rows : ((store_of db).pages ≡ 0) ⊎ HasRows (packages old.pkg (store_of db)) old.idx → HasRows (packages old.pkg (store_of db)) old.idx
     paged_rows (inl none) = absurd (omega (arith, made_paged db some, none))
     paged_rows (inr rows) = rows
 
-    kept_indexed : must_make old.idx (store old.pkg) ≡ false → IsIndexed new.pkg new.idx db
+    kept_indexed : must_rebuild old.idx (store old.pkg) ≡ false → IsIndexed new.pkg new.idx db
     kept_indexed kept =
         let current = kept_current old.idx (store old.pkg) db opened.store_is some kept in
         subst (λ (f : Files). IsIndexed f.pkg f.idx db) (sym (opened.same kept)) (record {
@@ -74,7 +76,7 @@ module _ (old new : Files) (db : Database) (opened : IsOpened old new (Ok db)) (
         })
 
     opened_indexed : IsIndexed new.pkg new.idx db
-    opened_indexed = elim (cases_Bool (must_make old.idx (store old.pkg))) [
+    opened_indexed = elim (cases_Bool (must_rebuild old.idx (store old.pkg))) [
       | inl making ↦ opened.made making
       | inr kept ↦ kept_indexed kept
     ]
@@ -85,9 +87,9 @@ module _ (old new : Files) (db : Database) (opened : IsOpened old new (Ok db)) (
   -- it is there, and holds the rows
   pub opened_index : IsUsable old.pkg old.idx → HasUsableIndex new.pkg new.idx
   opened_index usable = record {
-    value = (room db);
+    value = (store_of db);
     undamaged = ap store pkg ∙ opened.store_is;
-    index = elim (cases_Bool (is_blank db)) [
+    index = elim (cases_Bool (is_blank_database db)) [
       | inl blank ↦ inl (blank_unpaged db blank)
       | inr some ↦ (let is = opened_indexed some usable in inr (is.current, is.rows_are))
     ];
@@ -96,12 +98,12 @@ module _ (old new : Files) (db : Database) (opened : IsOpened old new (Ok db)) (
   -- where it was current, nothing changes; where it wasn't, it holds the rows
   module _ (words : List (List ℕ)) (a : AskParts) where
     broken : (unit : ℕ) → (HasIndexRows db new.pkg new.idx → ⊥) → CauseIs words a new.idx (why.BadIndex unit) → BadIs words a old (why.BadIndex unit)
-    broken unit lawful cause = elim (cases_Bool (is_blank db)) [
+    broken unit lawful cause = elim (cases_Bool (is_blank_database db)) [
       | inl blank ↦ absurd (lawful (no_index_rows db new.pkg new.idx (indexed ∙ ap not blank)))
-      | inr some ↦ elim (cases_Bool (must_make old.idx (store old.pkg))) [
+      | inr some ↦ elim (cases_Bool (must_rebuild old.idx (store old.pkg))) [
         | inl making ↦ absurd (lawful (λ is. (opened.made making).rows_are))
         | inr kept ↦ (
-          (room db),
+          (store_of db),
           opened.store_is,
           kept_current old.idx (store old.pkg) db opened.store_is some kept,
           subst (λ (f : Files). CauseIs words a f.idx (why.BadIndex unit)) (opened.same kept) cause,

@@ -6,20 +6,20 @@ use Rattle.rpm_outside.specs.declared.shelf.Shelf as shelf
 use Rattle.rpm_outside.specs.declared.sink.Sink as sink
 use Rattle.rpm_tool.proofs.Vocabulary.{Answers, AnswersByKey, AnswersChange, AnswersKeyed, AnswersOfFiles, AnswersPlain, AnswersText, asked_course, ask, asked_task}
 use Rattle.rpm_tool.proofs.Vocabulary.{AskParts, asks_change, asks_format, Buffered, by_key, changes_in, AnswersCommand, EmptyBy, is_changing, is_done, is_foreign}
-use Rattle.rpm_tool.proofs.Vocabulary.{HasCauseAt, inner, is_of_words, Leaves, needs_none, of_files, OneChange, Outputs, outputs, Pkg, ran, reads_shelf}
+use Rattle.rpm_tool.proofs.Vocabulary.{HasCauseAt, inner, is_of_words, OnlyReadsPackages, needs_none, of_files, OneChange, Outputs, outputs, Pkg, ran, reads_shelf}
 use Rattle.rpm_tool.proofs.Vocabulary.{reopened, Run, Streams}
 use Rattle.rpm_tool.proofs.Vocabulary.{task_course, text_of, Tree, Why}
 use Rattle.rpm_effects.specs.Hands.{Hand, EndHands}
 use Rattle.rpm_effects.specs.declared.answer.Why.TheVariants as why
 use Rattle.rpm_tool.proofs.Begun.{change_untold, files_unchanging, files_unkeyed, files_untold, keyed_unchanging, keyed_untold, not_begun, unforeign}
-use Rattle.rpm_commit.specs.inner.Emptied.{memory_empty}
-use Rattle.rpm_print.specs.inner.Peeking.{leaves_none}
-use Rattle.rpm_effects.specs.inner.Reaching.{not_begun as no_step, through_none}
+use Rattle.rpm_commit.specs.laws.Emptied.{memory_empty}
+use Rattle.rpm_print.specs.laws.Peeking.{leaves_none}
+use Rattle.rpm_effects.specs.laws.Reaching.{not_begun as no_step, through_none}
 use Rattle.rpm_tool.proofs.Faults.{never_cause}
 use Rattle.rpm_tool.proofs.Recovered.{unbegun}
 use Rattle.rpm_tool.proofs.Undone.{asked_is, asked_some, same_asked}
-use Rattle.rpm_commit.specs.inner.Unmade.{idle_run, unmade_one}
-use Rattle.rpm_group.specs.inner.KeptLogs.{same_kept}
+use Rattle.rpm_commit.specs.laws.Unmade.{idle_run, unmade_one}
+use Rattle.rpm_group.specs.laws.KeptLogs.{same_kept}
 
 clash : {P : Type 0} {b : _} → b ≡ true → b ≡ false → P
 clash is not = let both : true ≡ false = sym is ∙ not in absurd cc
@@ -46,11 +46,11 @@ module _ {D S : Type 0} {d : disk.Ghosts D} {s : shelf.Ghosts S} {r : Run d s} {
     kept = k.kept;
     still = k.still;
     leaves = k.leaves;
-    stops = k.stops;
+    crashes = k.crashes;
   }
 
   pub does_plain : of_files a ≡ false → by_key a ≡ false → is_changing a ≡ false → text_of a.mode ≡ None
-      → (IsTrue d.tells → AnswersPlain r a tree mid) → Leaves d r.found r.left → r.shelf_left ≡ r.shelf_found → AnswersCommand r a tree mid
+      → (IsTrue d.tells → AnswersPlain r a tree mid) → OnlyReadsPackages d r.found r.left → r.shelf_left ≡ r.shelf_found → AnswersCommand r a tree mid
   does_plain files keyed changing untold went looks shelf = record {
     plain = λ _f _k _c _t told. went told;
     files = λ is. clash is files;
@@ -62,7 +62,7 @@ module _ {D S : Type 0} {d : disk.Ghosts D} {s : shelf.Ghosts S} {r : Run d s} {
     shelf_unread = λ _f _r. shelf;
   }
 
-  pub does_files : of_files a ≡ true → AnswersOfFiles r a tree mid → Leaves d r.found r.left → AnswersCommand r a tree mid
+  pub does_files : of_files a ≡ true → AnswersOfFiles r a tree mid → OnlyReadsPackages d r.found r.left → AnswersCommand r a tree mid
   does_files files went looks = record {
     plain = λ other _k _c _t told. clash files other;
     files = λ is. went;
@@ -105,7 +105,7 @@ module _ {D S : Type 0} {d : disk.Ghosts D} {s : shelf.Ghosts S} {r : Run d s} {
     shelf_unread = λ _f reads. shelf reads;
   }
 
-  pub does_text : {text : List ℕ} → text_of a.mode ≡ Some text → AnswersText r text mid → Leaves d r.found r.left → AnswersCommand r a tree mid
+  pub does_text : {text : List ℕ} → text_of a.mode ≡ Some text → AnswersText r text mid → OnlyReadsPackages d r.found r.left → AnswersCommand r a tree mid
   does_text {text = text} said went looks = record {
     plain = λ _f _k _c none told. none_said none said;
     files = λ is. absurd (files_untold a text is said);
@@ -173,7 +173,8 @@ module _ {w : Why} (ends : (w ≡ why.Done) ⊎ (w ≡ why.OutFault)) where
 -- a command for which memory is wanting does nothing, whatever is asked
 module _ {D S : Type 0} {d : disk.Ghosts D} {s : shelf.Ghosts S} (words : List (List ℕ)) (now : ℕ) (it : D) (at : S) (ot et : Bool) (o e : List ℕ)
     (stays : (x : D) → d.follows x x) where
-  pub does_nothing : (a : AskParts) (tree : Tree) → AnswersCommand (ran d s words now why.NoMemory 0 (it, at) (outputs ot o et e) (it, at)) a tree (outputs ot o et e)
+  pub does_nothing : (a : AskParts) (tree : Tree) → AnswersCommand (ran d s words now why.NoMemory 0 (it, at) (outputs ot o et e) (it, at)) a tree
+      (outputs ot o et e)
   does_nothing a tree = record {
     plain = λ _f _k _c _t told. record {
       went = not_begun tree words a (d.files it) ot et o e (d.bytes_read it Pkg);

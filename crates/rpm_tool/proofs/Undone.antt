@@ -1,7 +1,7 @@
 -- What the answers to words say, to those that aren't done and to those that are.
 use Rattle.std.proofs.Common.{◌≡◌, ◌∙◌, ℕ, true, false, List, Option, Some, None, Result, Ok, Err, refl, sym, ap, subst, inl, inr}
 use Rattle.std.specs.Prelude.{◌≢◌}
-use Rattle.rpm_tool.proofs.Vocabulary.{ask, AskParts, asks, asks_format, command_in, format_in, FormatFault, is_of_words, Tree, Undone, Why, WordsFault}
+use Rattle.rpm_tool.proofs.Vocabulary.{ask, AskParts, asks, asks_format, command_and_format, format_in, FormatFault, is_of_words, Tree, Undone, Why, WordsFault}
 use Rattle.rpm_tool.specs.Theorem.{AnswersWords}
 use Rattle.rpm_words.specs.declared.fault.WordsKind.TheVariants as kind
 use Rattle.rpm_qfparse.specs.declared.fault.FormatKind.TheVariants as wrong
@@ -33,7 +33,7 @@ module _ (words : List (List ℕ)) where
   }
   undone_words _ t = absurd t
 
-  no_tree : (asked : Result AskParts WordsFault) (f : FormatFault) → command_in asked (Some (Err f)) ≡ None
+  no_tree : (asked : Result AskParts WordsFault) (f : FormatFault) → command_and_format asked (Some (Err f)) ≡ None
   no_tree (Ok a) f = refl
   no_tree (Err g) f = refl
 
@@ -41,8 +41,8 @@ module _ (words : List (List ℕ)) where
   pub starved : (w : Why) → Undone (ask words) (asks_format words) w → (a : AskParts) (tree : Tree) → asks words ≡ Some (a, tree) → w ≡ why.NoMemory
   unfolding asks asks_format
   starved (why.Usage f) t a tree read =
-      absurd (none_some (a, tree) _ (ap (λ (r : Result AskParts WordsFault). command_in r (format_in words r)) t.0) read)
-  starved (why.BadFormat f) t a tree read = absurd (none_some (a, tree) _ (ap (command_in (ask words)) t.0 ∙ no_tree (ask words) f) read)
+      absurd (none_some (a, tree) _ (ap (λ (r : Result AskParts WordsFault). command_and_format r (format_in words r)) t.0) read)
+  starved (why.BadFormat f) t a tree read = absurd (none_some (a, tree) _ (ap (command_and_format (ask words)) t.0 ∙ no_tree (ask words) f) read)
   starved why.NoMemory t a tree read = refl
   starved _ t a tree read = absurd t
 
@@ -61,7 +61,7 @@ module _ (words : List (List ℕ)) where
 
     pub asked_is : asks words ≡ Some (a, tree)
     unfolding asks
-    asked_is = ap (command_in (ask words)) read.1 ∙ ap (λ (r : Result AskParts WordsFault). command_in r (Some (Ok tree))) read.0
+    asked_is = ap (command_and_format (ask words)) read.1 ∙ ap (λ (r : Result AskParts WordsFault). command_and_format r (Some (Ok tree))) read.0
 
     pub asked_some : {P : Type 0} → asks words ≡ None → P
     asked_some none = absurd (none_some (a, tree) (asks words) none asked_is)

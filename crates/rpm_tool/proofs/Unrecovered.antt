@@ -1,13 +1,13 @@
 -- What the log says of a database: it is gone through, or what is said where it can't be recovered.
 use Rattle.std.proofs.Common.{◌≡◌, ℕ, Bool, true, false, List, [], Result, Ok, Err, refl, sym, subst}
-use Rattle.rpm_tool.proofs.Vocabulary.{AskParts, BadIs, Damage, Deeds, Files, IndexFullIs, is_done, is_done_or_outside, is_foreign}
+use Rattle.rpm_tool.proofs.Vocabulary.{AskParts, BadIs, Damage, StoreAnswerBy, Files, IndexFullIs, is_done, is_done_or_outside, is_foreign}
 use Rattle.rpm_tool.proofs.Vocabulary.{is_of_streams, IsSound, LogAnswer, LogState}
 use Rattle.rpm_tool.proofs.Vocabulary.{StoreAnswer, Outputs, RecoverFault, RecoverSays, Store, Through, Why, why_of_recover}
 use Rattle.rpm_group.specs.declared.recovery.RecoverFault.TheVariants as recover
 use Rattle.rpm_effects.specs.declared.answer.Why.TheVariants as why
 use Rattle.rpm_tool.proofs.Loading.{loaded_fault}
 
-module _ (Do : Deeds) (s : Result Store Damage) where
+module _ (Do : StoreAnswerBy) (s : Result Store Damage) where
   pub loaded_by : (log : LogState) (finished : Bool) (given : Why) (old new : Outputs) → RecoverSays log (Ok finished) → StoreAnswer Do s given old new
       → LogAnswer Do s log given old new
   loaded_by log true given old new says opened = subst (λ (l : LogState). LogAnswer Do s l given old new) (sym says) opened

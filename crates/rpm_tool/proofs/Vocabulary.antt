@@ -8,60 +8,61 @@ pub use Rattle.rpm_commit.specs.Lawful.{AreLawfulDatabases, KeepsPackages, IsLaw
 pub use Rattle.rpm_commit.specs.Limits.{OneChange}
 pub use Rattle.rpm_commit.specs.Tasks.{asked_course, asked_task, needs_none, reads_shelf, task_course}
 pub use Rattle.rpm_commit.specs.OneChange.{Streams}
-pub use Rattle.rpm_db.specs.Database.{Database, is_blank, is_indexed, unindexed}
-pub use Rattle.rpm_db.specs.Frame.{room}
+pub use Rattle.rpm_db.specs.Database.{Database, is_blank_database, is_indexed, without_index}
+pub use Rattle.rpm_db.specs.Database.{store_of}
 pub use Rattle.rpm_db.specs.Lawful.{AreLawful, IsLawful, IsLawfulStill, Remade}
-pub use Rattle.rpm_db.specs.Openings.{IsOpened, must_make, units_needed}
-pub use Rattle.rpm_db.specs.RoomLaws.{blank_unpaged, kept_current, made_paged}
+pub use Rattle.rpm_db.specs.Openings.{IsOpened, must_rebuild, units_needed}
+pub use Rattle.rpm_db.specs.laws.RoomLaws.{blank_unpaged, kept_current, made_paged}
 pub use Rattle.rpm_db.specs.State.{above, Package}
 unfoldable pub use Rattle.rpm_db.specs.State.{packages}
 pub use Rattle.rpm_group.specs.Layers.{laid_files}
 pub use Rattle.rpm_group.specs.Loads.{IsSound}
-pub use Rattle.rpm_group.specs.Settled.{KeepsLog, RecoverKeeps, RecoverSays, ReopensAsOneOf}
+pub use Rattle.rpm_group.specs.Crashes.{KeepsLog, RecoverKeeps, RecoverSays, ReopensAsOneOf}
 pub use Rattle.rpm_group.specs.declared.recovery.RecoverFault.{RecoverFault}
 pub use Rattle.rpm_outside.specs.Buffered.{inner}
 pub use Rattle.rpm_outside.specs.Causes.{HasCauseAt, Rose}
-pub use Rattle.rpm_outside.specs.Changes.{AreSettled}
+pub use Rattle.rpm_outside.specs.Changes.{AreDurable}
 pub use Rattle.rpm_outside.specs.Files.{Files, Units}
 pub use Rattle.rpm_outside.specs.Frame.{images}
-pub use Rattle.rpm_outside.specs.Logs.{Closed, log_state, LogState, Malformed, reopened, unlogged}
+pub use Rattle.rpm_outside.specs.Logs.{Closed, log_state, LogState, Malformed, reopened, without_log}
 pub use Rattle.rpm_outside.specs.SinkFrame.{Writes}
 pub use Rattle.rpm_outside.specs.declared.buffered.Buffered.{Buffered}
 pub use Rattle.rpm_outside.specs.declared.disk.File.TheVariants.{Idx, Pkg}
-pub use Rattle.rpm_outside.specs.inner.Looking.{looks_then}
-pub use Rattle.rpm_outside.specs.inner.Moments.{leaves_then, leaves_weaker, started}
+pub use Rattle.rpm_outside.specs.laws.Looking.{looks_then}
+pub use Rattle.rpm_outside.specs.laws.Moments.{leaves_then, leaves_weaker, started}
 pub use Rattle.rpm_pkgdb.specs.Store.{Store, store}
 pub use Rattle.rpm_pkgdb.specs.declared.slot.Damage.{Damage}
-pub use Rattle.rpm_effects.specs.Answers.{Closes, Ends, Refused, CommandProgress}
+pub use Rattle.rpm_effects.specs.Answers.{Closes, ClosingEnding, RefusalIs, CommandProgress}
 pub use Rattle.rpm_print.specs.Answers.{Undone}
-pub use Rattle.rpm_print.specs.Asked.{always_keyed, by_key, changes_in, command_in, deed_of, format_in, is_changing, is_changing_in, is_package}
+pub use Rattle.rpm_print.specs.Asked.{always_keyed, by_key, changes_in, command_and_format, request_of, format_in, is_changing, is_changing_in, is_package}
 pub use Rattle.rpm_print.specs.Asked.{is_query, needs_no_index, of_files, opens_index}
 unfoldable pub use Rattle.rpm_print.specs.Asked.{asks, asks_change, asks_format}
 pub use Rattle.rpm_effects.specs.Classes.{is_done, is_done_or_outside, is_foreign, is_of_opening, is_of_streams, is_of_words, is_refusal}
 unfoldable pub use Rattle.rpm_print.specs.Closing.{closing}
-pub use Rattle.rpm_print.specs.Frame.{Leaves, packages_in, Peeks, pkg_read, Runs}
-pub use Rattle.rpm_effects.specs.Shown.{outs, shown}
+pub use Rattle.rpm_print.specs.Frame.{OnlyReadsPackages, OnlyReadsIndexed, pkg_read}
+pub use Rattle.rpm_db.specs.Frame.{packages_in, Runs}
+pub use Rattle.rpm_effects.specs.Shown.{outs, shown_outputs}
 pub use Rattle.rpm_print.specs.Printed.{step_of}
 pub use Rattle.rpm_print.specs.Reads.{reach_sum, reached_by}
 pub use Rattle.rpm_effects.specs.Portions.{RisesFrom, with_number}
 pub use Rattle.rpm_print.specs.Texts.{text_of}
 pub use Rattle.rpm_effects.specs.declared.answer.Why.{Why}
-pub use Rattle.rpm_print.specs.declared.reading.Deed.{Deed}
+pub use Rattle.rpm_print.specs.declared.reading.Request.{Request}
 pub use Rattle.rpm_qfparse.specs.Tree.{Tree}
 pub use Rattle.rpm_qfparse.specs.declared.fault.FormatFault.{FormatFault}
-pub use Rattle.rpm_query.specs.Queries.{answered, AreQuestions, argument_part, capability_in, export, is_question, lent, picked_by, query, query_of}
+pub use Rattle.rpm_query.specs.Queries.{answered_part, AreQuestions, argument_part, capability_in, export, is_question, lent, picked_by, query, query_of}
 pub use Rattle.rpm_query.specs.Queries.{question_of}
-unfoldable pub use Rattle.rpm_query.specs.Queries.{missing_part, picked}
+unfoldable pub use Rattle.rpm_query.specs.Queries.{missing_part, picked_packages}
 unfoldable pub use Rattle.rpm_query.specs.Reach.{argument_reach}
 pub use Rattle.rpm_report.specs.FileReport.{check_files}
 pub use Rattle.rpm_report.specs.Reports.{verify}
-pub use Rattle.rpm_report.specs.Requirements.{order_part, ordering, unsatisfied, unsatisfied_part}
+pub use Rattle.rpm_report.specs.Requirements.{order_part, ordering, unsatisfied_report, unsatisfied_part}
 pub use Rattle.rpm_select.specs.Reach.{HasIndexRows, Reach}
 pub use Rattle.rpm_select.specs.Selections.{is_picked}
 unfoldable pub use Rattle.rpm_select.specs.Selections.{picks}
 pub use Rattle.rpm_select.specs.declared.selection.Selection.{Selection}
-pub use Rattle.rpm_select.specs.inner.Unindexed.{no_index_rows}
-pub use Rattle.rpm_tool.specs.Deeds.{asked_reaches, blocks_cost, Deeds, PlainProgress, RequestProgress, LogAnswer, StoreAnswer, PlainAnswer, query_cost, read_to}
+pub use Rattle.rpm_select.specs.laws.Unindexed.{no_index_rows}
+pub use Rattle.rpm_tool.specs.Requests.{asked_reaches, blocks_cost, StoreAnswerBy, PlainProgress, RequestProgress, LogAnswer, StoreAnswer, PlainAnswer, query_cost, read_to}
 pub use Rattle.rpm_tool.specs.Keyed.{AnswersByKey, BadIs, CauseIs, KeyedProgress, FullByUnits, IndexFullIs, has_index, HasUsableIndex, HasRoom, IsAtRest, IsUsable}
 pub use Rattle.rpm_tool.specs.Keyed.{IsUsableDatabase, keyed_cost, keyed_to, KeyedAnswer, OnUsable, UnlessFull}
 pub use Rattle.rpm_tool.specs.Theorem.{Answers, AnswersChange, AnswersKeyed, AnswersOfFiles, AnswersPlain, AnswersText, AnswersCommand, ran, Run}
@@ -70,11 +71,11 @@ pub use Rattle.rpm_version.specs.declared.capability.BadCapability.{BadCapabilit
 pub use Rattle.rpm_words.specs.Ask.{AskParts, IsFit}
 unfoldable pub use Rattle.rpm_words.specs.Ask.{ask}
 pub use Rattle.rpm_words.specs.Number.{number}
-pub use Rattle.rpm_words.specs.Words.{text_at}
+pub use Rattle.rpm_words.specs.Words.{word_at}
 pub use Rattle.rpm_words.specs.declared.ask.Mode.{Mode}
 pub use Rattle.rpm_words.specs.declared.fault.WordsFault.{WordsFault}
 pub use Rattle.rpm_words.specs.declared.switch.Chosen.{Chosen}
-pub use Rattle.rpm_words.specs.inner.Given.{fit_arguments}
+pub use Rattle.rpm_words.specs.laws.Given.{fit_arguments}
 pub use Rattle.std.specs.List.{AllByRecursion}
 pub use Rattle.std.specs.Option.{is_none, option_map}
 pub use Rattle.std.specs.Ordering.{nat_cmp}

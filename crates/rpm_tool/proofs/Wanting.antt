@@ -1,14 +1,14 @@
 -- A command on an overlay that wanted memory, told on the disk below.
 use Rattle.std.specs.Prelude.{IsTrue, ◌↔◌}
-use Rattle.rpm_tool.proofs.Vocabulary.{Damage, Refused, Rose, unless_starved, Why}
+use Rattle.rpm_tool.proofs.Vocabulary.{Damage, RefusalIs, Rose, unless_starved, Why}
 use Rattle.std.proofs.Common.{◌≡◌, ℕ, zero, suc, ◌+◌, ◌<◌, ◌≤◌, Bool, true, false, refl, arith}
 use Rattle.rpm_effects.specs.declared.answer.Why.TheVariants as why
-use Rattle.rpm_commit.specs.inner.ByEnding.{by_starved}
-use Rattle.rpm_commit.specs.inner.Starved.{starved_fault}
+use Rattle.rpm_commit.specs.laws.ByEnding.{by_starved}
+use Rattle.rpm_commit.specs.laws.Starved.{starved_fault}
 
 -- want of memory in place of a fault of the disk
-pub refused_starved : (starved : Bool) (w : Why) (d : Damage) → Refused d w → Refused d (unless_starved starved w)
-refused_starved starved w d = by_starved (λ (was given : Why). Refused d was → Refused d given) (λ was r. r) (λ r. tt) starved w
+pub refused_starved : (starved : Bool) (w : Why) (d : Damage) → RefusalIs d w → RefusalIs d (unless_starved starved w)
+refused_starved starved w d = by_starved (λ (was given : Why). RefusalIs d was → RefusalIs d given) (λ was r. r) (λ r. tt) starved w
 
 not_starved : (starved : Bool) (n : ℕ) → starved ≡ false → IsTrue starved ↔ (0 < n) → n ≡ 0
 not_starved true n is told = absurd cc

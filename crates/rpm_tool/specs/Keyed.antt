@@ -1,8 +1,9 @@
--- Questions by key and the reports on requirements, which open the database with its index and change no package: what they answer and leave.
--- On it rests `keyed` of the page (Theorem.antt).
-use Rattle.std.specs.Prelude.{◌≡◌, ◌⊎◌, ℕ, ◌+◌, ◌^◌, ◌<◌, ◌≤◌, List, [], map, Bool, true, false, not, ◌==◌, ◌||◌, Ok, IsTrue}
+-- Questions by key and the reports on requirements, which open the database with its index and change no package: what
+-- they answer and leave. On it rests `keyed` of the page (Theorem.antt).
+use Rattle.std.specs.Prelude.{◌≡◌, ◌⊎◌, ℕ, ◌+◌, ◌^◌, ◌<◌, ◌≤◌, List, [], map, Bool, true, false, not, ◌==◌, ◌||◌, Ok}
+use Rattle.std.specs.Prelude.{IsTrue}
 use Rattle.std.proofs.Common.{inl, inr, refl}
-use Rattle.rpm_outside.specs.Frame.{LeavesIn, images}
+use Rattle.rpm_outside.specs.Frame.{CrashLeaves, images}
 use Rattle.rpm_outside.specs.declared.disk.Disk as disk
 use Rattle.rpm_outside.specs.declared.disk.File.TheVariants.{Pkg}
 use Rattle.rpm_outside.specs.Files.{Units, Files}
@@ -10,29 +11,31 @@ use Rattle.rpm_outside.specs.Logs.{Closed, log_state, reopened}
 use Rattle.rpm_group.specs.Loads.{IsSound}
 use Rattle.rpm_pkgdb.specs.Store.{Store, blank_store, store}
 use Rattle.rpm_pkgdb.specs.Costs.{opening_cost}
-use Rattle.rpm_db.specs.Database.{Database, is_indexed, unindexed}
-use Rattle.rpm_db.specs.Frame.{room}
+use Rattle.rpm_db.specs.Database.{Database, is_indexed, without_index}
+use Rattle.rpm_db.specs.Database.{store_of}
 use Rattle.rpm_db.specs.State.{packages}
 use Rattle.rpm_db.specs.Lawful.{HasRows, IsLawful, is_current_at}
-use Rattle.rpm_db.specs.Openings.{must_make, units_needed, making_cost}
-use Rattle.rpm_words.specs.Words.{text_at}
+use Rattle.rpm_db.specs.Openings.{must_rebuild, units_needed, rebuilding_cost}
+use Rattle.rpm_words.specs.Words.{word_at}
 use Rattle.rpm_words.specs.Ask.{AskParts}
 use Rattle.rpm_qfparse.specs.Tree.{Tree}
 use Rattle.rpm_effects.specs.declared.answer.Why.{Why}
 use Rattle.rpm_effects.specs.declared.answer.Why.TheVariants as why
-use Rattle.rpm_print.specs.declared.reading.Deed.{Deed}
-use Rattle.rpm_print.specs.declared.reading.Deed.TheVariants as deed
-use Rattle.rpm_print.specs.Asked.{always_keyed, is_query, deed_of}
+use Rattle.rpm_print.specs.declared.reading.Request.{Request}
+use Rattle.rpm_print.specs.declared.reading.Request.TheVariants as request
+use Rattle.rpm_print.specs.Asked.{always_keyed, is_query, request_of}
 use Rattle.rpm_effects.specs.Steps.{Bearer}
 use Rattle.rpm_report.specs.Requirements.{IsOfSome}
-use Rattle.rpm_print.specs.Frame.{HasRows as HasIndexRows, packages_in, Peeks, pkg_read}
+use Rattle.rpm_select.specs.Frame.{HasKeptRows as HasIndexRows}
+use Rattle.rpm_db.specs.Frame.{packages_in}
+use Rattle.rpm_print.specs.Frame.{OnlyReadsIndexed, pkg_read}
 use Rattle.rpm_print.specs.Reads.{reach_sum, reached_by}
 use Rattle.rpm_query.specs.Reach.{IsOfChains}
 use Rattle.rpm_effects.specs.Progress.{Outputs, Through}
 use Rattle.rpm_effects.specs.Classes.{is_done, is_done_or_outside, is_foreign, is_refusal}
-use Rattle.rpm_tool.specs.Deeds.{Deeds, LogAnswer, RequestProgress, reaches_of, asked_reaches, blocks_cost}
+use Rattle.rpm_tool.specs.Requests.{StoreAnswerBy, LogAnswer, RequestProgress, reaches_of, asked_reaches, blocks_cost}
 pub use Rattle.rpm_commit.specs.Lawful.{AreLawfulDatabases, IsLawfulDatabase, KeepsPackages, IsLawfulAndSame}
-pub use Rattle.rpm_group.specs.Settled.{KeepsLog}
+pub use Rattle.rpm_group.specs.Crashes.{KeepsLog}
 pub use Rattle.rpm_words.specs.declared.switch.Chosen.{Chosen}
 
 -- ---- an index that is ready
@@ -51,9 +54,10 @@ pub record HasClosedIndex (files : Files) : Type 0 where
 -- nothing is left of a change, and no index must be made, whatever the one that is there holds
 pub record IsAtRest (files : Files) : Type 0 where
   pub closed : log_state files.log ≡ Closed
-  pub made : must_make files.idx (store files.pkg) ≡ false
+  pub made : must_rebuild files.idx (store files.pkg) ≡ false
 
--- the store isn't damaged, and the index has the rows of the packages where it is current; a database that is blank needs none
+-- the store isn't damaged, and the index has the rows of the packages where it is current; a database that is blank
+-- needs none
 pub record IsUsable (pkg idx : Units) : Type 0 where
   pub value : Store
   pub undamaged : store pkg ≡ Ok value
@@ -62,7 +66,8 @@ pub record IsUsable (pkg idx : Units) : Type 0 where
 -- a lawful database is usable
 pub lawful_usable : (pkg idx : Units) → IsLawful pkg idx → IsUsable pkg idx
 lawful_usable pkg idx (inl blank) = record { value = blank_store; undamaged = blank; index = λ current. inl refl }
-lawful_usable pkg idx (inr made) = record { value = made.0; undamaged = made.1; index = λ current. inr (made.2.rows_are current) }
+lawful_usable pkg idx (inr made) =
+    record { value = made.0; undamaged = made.1; index = λ current. inr (made.2.rows_are current) }
 
 -- files represent a usable database: their log is closed, or has a transaction that makes it of them
 pub record IsUsableDatabase (files : Files) : Type 0 where
@@ -77,7 +82,7 @@ UnlessFull Do (why.IndexFull needed) old new = Through [] old new
 UnlessFull Do others old new = Do others old new
 
 -- a question is answered on a usable database; of any that can be read no damage is told
-abbrev pub OnUsable : Type 0 → Deeds → Deeds
+abbrev pub OnUsable : Type 0 → StoreAnswerBy → StoreAnswerBy
 OnUsable Usable Do s given old new = (is_refusal given ≡ false) × (Usable → UnlessFull (Do s) given old new)
 
 -- what is said where an index must be made, or needn't, that needs so many units
@@ -88,28 +93,32 @@ FullByUnits making needed why.NoMemory = Unit {0}
 FullByUnits making needed (why.BadLog unit) = Unit {0}
 FullByUnits making needed others = making ≡ true → needed ≤ 2 ^ 28
 
--- the index is full exactly where it must be made and needs too many units; a malformed log, a fault of the disk or want of memory may come before
+-- the index is full exactly where it must be made and needs too many units; a malformed log, a fault of the disk or
+-- want of memory may come before
 abbrev pub IndexFullIs : Files → Why → Type 0
-IndexFullIs files given = FullByUnits (must_make files.idx (store files.pkg)) (units_needed files.pkg (store files.pkg)) given
+IndexFullIs files given =
+    FullByUnits (must_rebuild files.idx (store files.pkg)) (units_needed files.pkg (store files.pkg)) given
 
--- what a malformed index is told with: of a query the fault of the chain of a key that is asked, of a report that of some key
-abbrev pub CauseBy : Deed → Chosen → List (List ℕ) → Units → Why → Type 0
-CauseBy deed.Print chosen texts idx given = IsOfChains chosen texts idx given
+-- what a malformed index is told with: of a query the fault of the chain of a key that is asked, of a report that of
+-- some key
+abbrev pub CauseBy : Request → Chosen → List (List ℕ) → Units → Why → Type 0
+CauseBy request.Print chosen texts idx given = IsOfChains chosen texts idx given
 CauseBy others chosen texts idx given = IsOfSome idx given
 
 -- a question by key blames the index only for a chain that it asks
 abbrev pub CauseIs : List (List ℕ) → AskParts → Units → Why → Type 0
-CauseIs words a idx given = CauseBy (deed_of a.mode) a.chosen (map (text_at words) a.arguments) idx given
+CauseIs words a idx given = CauseBy (request_of a.mode) a.chosen (map (word_at words) a.arguments) idx given
 
 -- a malformed index is told only where it is current
 abbrev pub BadIs : List (List ℕ) → AskParts → Files → Why → Type 0
-BadIs words a files (why.BadIndex unit) = (s : Store) × (store files.pkg ≡ Ok s) × (is_current_at s.generation files.idx ≡ true)
+BadIs words a files (why.BadIndex unit) = (s : Store) × (store files.pkg ≡ Ok s)
+    × (is_current_at s.generation files.idx ≡ true)
     × CauseIs words a files.idx (why.BadIndex unit)
 BadIs words a files others = Unit {0}
 
 -- an index that must be made has room
 abbrev pub HasRoom : Files → Type 0
-HasRoom files = must_make files.idx (store files.pkg) ≡ true → units_needed files.pkg (store files.pkg) ≤ 2 ^ 28
+HasRoom files = must_rebuild files.idx (store files.pkg) ≡ true → units_needed files.pkg (store files.pkg) ≤ 2 ^ 28
 
 -- ---- what is read
 
@@ -120,40 +129,47 @@ has_index s = not (s.pages == 0)
 -- a question reads this much up to a step: the pages, the packages where the index must be made of them, and those
 -- that the arguments go over
 abbrev pub keyed_to : Files → List (List ℕ) → AskParts → Store → Bearer → ℕ
-keyed_to files words a s for = opening_cost files.pkg + making_cost files.idx (store files.pkg)
-    + reached_by (asked_reaches (has_index s) files.pkg s words a) (unindexed s) for
+keyed_to files words a s for = opening_cost files.pkg + rebuilding_cost files.idx (store files.pkg)
+    + reached_by (asked_reaches (has_index s) files.pkg s words a) (without_index s) for
 
 -- a question reads this much in all: the pages, the packages where the index must be made of them, and those that the
 -- arguments go over
 abbrev pub keyed_cost : Files → List (List ℕ) → AskParts → ℕ
 keyed_cost files words a =
-    opening_cost files.pkg + making_cost files.idx (store files.pkg) + blocks_cost has_index files.pkg (store files.pkg) words a
+    opening_cost files.pkg + rebuilding_cost files.idx (store files.pkg)
+    + blocks_cost has_index files.pkg (store files.pkg) words a
 
 -- ---- what is answered
 
--- a database that is opened, on a disk that tells its contents: what is done, what is read, and what is blamed on the index
-pub record OpenedAnswer {D : Type 0} (d : disk.Ghosts D) (deed : Deed) (tree : Tree) (db : Database) (words : List (List ℕ)) (a : AskParts) (given : Why)
+-- a database that is opened, on a disk that tells its contents: what is done, what is read, and what is blamed on the
+-- index
+pub record OpenedAnswer {D : Type 0} (d : disk.Ghosts D) (request : Request) (tree : Tree) (db : Database)
+    (words : List (List ℕ)) (a : AskParts) (given : Why)
     (before now : Outputs) (old new : D) : Type 0 where
-  pub went : IsTrue d.tells → HasIndexRows d old db → RequestProgress deed tree (d.files old).pkg (room db) words a (λ for. pkg_read d new ≤ pkg_read d old
-      + reached_by (reaches_of deed (is_indexed db) (packages_in d old db) words a) db for) given before now
-  pub reads : always_keyed deed ≡ false → IsTrue d.tells → HasIndexRows d old db → pkg_read d new ≤ pkg_read d old
-      + reach_sum (reaches_of deed (is_indexed db) (packages_in d old db) words a) db
-  pub bad : IsTrue d.tells → CauseBy deed a.chosen (map (text_at words) a.arguments) (d.files old).idx given
-  pub looks : Peeks d (always_keyed deed || is_indexed db) old new
+  pub went : IsTrue d.tells → HasIndexRows d old db
+      → RequestProgress request tree (d.files old).pkg (store_of db) words a (λ for. pkg_read d new ≤ pkg_read d old
+      + reached_by (reaches_of request (is_indexed db) (packages_in d old db) words a) db for) given before now
+  pub reads : always_keyed request ≡ false → IsTrue d.tells → HasIndexRows d old db → pkg_read d new ≤ pkg_read d old
+      + reach_sum (reaches_of request (is_indexed db) (packages_in d old db) words a) db
+  pub bad : IsTrue d.tells → CauseBy request a.chosen (map (word_at words) a.arguments) (d.files old).idx given
+  pub looks : OnlyReadsIndexed d (always_keyed request || is_indexed db) old new
 
 -- a question by key is answered on these files, of whose Packages.db so many bytes were read before and then
-abbrev pub KeyedProgress : Tree → List (List ℕ) → AskParts → Files → ℕ → ℕ → Deeds
+abbrev pub KeyedProgress : Tree → List (List ℕ) → AskParts → Files → ℕ → ℕ → StoreAnswerBy
 KeyedProgress tree words a r before now s given old new =
-    RequestProgress (deed_of a.mode) tree r.pkg s words a (λ for. now ≤ before + keyed_to r words a s for) given old new
+    RequestProgress (request_of a.mode) tree r.pkg s words a
+    (λ for. now ≤ before + keyed_to r words a s for) given old new
 
 -- what a question by key prints, reports and reads
 abbrev pub KeyedAnswer : Tree → List (List ℕ) → AskParts → Files → Why → Outputs → Outputs → ℕ → ℕ → Type 0
 KeyedAnswer tree words a files given old new before now =
     let r = reopened files in
-    LogAnswer (OnUsable (IsUsable r.pkg r.idx) (KeyedProgress tree words a r before now)) (store r.pkg) (log_state files.log) given old new
+    LogAnswer (OnUsable (IsUsable r.pkg r.idx) (KeyedProgress tree words a r before now)) (store r.pkg)
+    (log_state files.log) given old new
 
 -- all that is said of it on a disk that tells its contents
-pub record AnswersByKey {D : Type 0} (d : disk.Ghosts D) (tree : Tree) (words : List (List ℕ)) (a : AskParts) (given : Why) (before now : Outputs)
+pub record AnswersByKey {D : Type 0} (d : disk.Ghosts D) (tree : Tree) (words : List (List ℕ)) (a : AskParts)
+    (given : Why) (before now : Outputs)
     (old new : D) : Type 0 where
   pub went : KeyedAnswer tree words a (d.files old) given before now (d.bytes_read old Pkg) (d.bytes_read new Pkg)
   pub reads : is_query a.mode ≡ true → IsUsableDatabase (d.files old)
@@ -166,5 +182,5 @@ pub record AnswersByKey {D : Type 0} (d : disk.Ghosts D) (tree : Tree) (words : 
   pub packages : (reopened (d.files new)).pkg ≡ (reopened (d.files old)).pkg
   pub kept : KeepsLog (d.files old) (d.files new)
   pub still : IsAtRest (d.files old) → d.files new ≡ d.files old
-  pub leaves : LeavesIn d old new (KeepsPackages (images d old))
-  pub stops : AreLawfulDatabases (images d old) → LeavesIn d old new (IsLawfulAndSame (images d old))
+  pub leaves : CrashLeaves d old new (KeepsPackages (images d old))
+  pub crashes : AreLawfulDatabases (images d old) → CrashLeaves d old new (IsLawfulAndSame (images d old))

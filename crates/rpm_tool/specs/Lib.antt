@@ -1,4 +1,4 @@
-pub mod Deeds
+pub mod Requests
 pub mod Keyed
 pub mod Theorem
 pub mod Prelude

@@ -1,7 +1,8 @@
--- The theorem, on one page. `run` (src/command.rt) keeps all that stands here, and asks nothing of its caller: each record is a clause of it, or a
--- field of one, and each field is one promise. Of what files hold it speaks only for disks and shelves that tell it (`tells`), as those in memory do.
--- A database is usable where `Packages.db` isn't damaged, the log isn't malformed, and the index has the rows of the packages if it is of their
--- generation. A usable database is lawful where its index isn't of a later generation. A blank database needs no index.
+-- The theorem, on one page. `run` (src/command.rt) keeps all that stands here, and asks nothing of its caller: each
+-- record is a clause of it, or a field of one, and each field is one promise. Of what files hold it speaks only for
+-- disks and shelves that tell it (`tells`), as those in memory do. A database is usable where `Packages.db` isn't
+-- damaged, the log isn't malformed, and the index has the rows of the packages if it is of their generation. A usable
+-- database is lawful where its index isn't of a later generation. A blank database needs no index.
 use Rattle.std.specs.Prelude.{◌≡◌, ◌≢◌, ℕ, ◌+◌, ◌≤◌, List, [], true, false, IsTrue, Some, None, Err, Ok}
 use Rattle.std.specs.Ordering.{nat_cmp}
 use Rattle.std.specs.FinMap.{FinMap}
@@ -22,15 +23,19 @@ use Rattle.rpm_print.specs.Answers.{ComesWhere}
 use Rattle.rpm_print.specs.Asked.{is_query, of_files, by_key, is_changing, asks_change, asks_format, asks}
 use Rattle.rpm_commit.specs.Changing.{ChangeProgressOn, ChangesWith, EmptyBy}
 use Rattle.rpm_effects.specs.Classes.{is_done, is_done_or_outside, is_foreign}
-use Rattle.rpm_print.specs.Texts.{Course, text_course, text_of}
-use Rattle.rpm_tool.specs.Deeds.{Anywhere, CommandProgress, Outputs, Package, PlainAnswer, query_cost, reopened, State}
-use Rattle.rpm_tool.specs.Deeds.{steps_above, Tree, Why}
-use Rattle.rpm_print.specs.Frame.{images, pkg_read, Leaves, LeavesIn}
-use Rattle.rpm_tool.specs.Keyed.{AreLawfulDatabases, Chosen, IsLawfulDatabase, IsUsableDatabase, KeepsLog, KeepsPackages, IsLawfulAndSame}
+use Rattle.rpm_effects.specs.Steps.{Course}
+use Rattle.rpm_print.specs.Texts.{text_course, text_of}
+use Rattle.rpm_tool.specs.Requests.{Anywhere, CommandProgress, Outputs, Package, PlainAnswer, query_cost, reopened}
+use Rattle.rpm_tool.specs.Requests.{State}
+use Rattle.rpm_tool.specs.Requests.{steps_above, Tree, Why}
+use Rattle.rpm_outside.specs.Frame.{images, CrashLeaves}
+use Rattle.rpm_print.specs.Frame.{pkg_read, OnlyReadsPackages}
+use Rattle.rpm_tool.specs.Keyed.{AreLawfulDatabases, Chosen, IsLawfulDatabase, IsUsableDatabase, KeepsLog}
+use Rattle.rpm_tool.specs.Keyed.{KeepsPackages, IsLawfulAndSame}
 use Rattle.rpm_tool.specs.Keyed.{IsAtRest, HasClosedIndex, KeyedAnswer, IndexFullIs, BadIs, HasRoom, keyed_cost}
 use Rattle.rpm_commit.specs.Limits.{LimitsBy, LogBy, FaultIs}
-use Rattle.rpm_query.specs.PackageFiles.{passing, query_files}
-use Rattle.rpm_query.specs.Queries.{picked, argument_part, query, query_of, AreOfEach, AreQuestions}
+use Rattle.rpm_query.specs.PackageFiles.{with_after, query_files}
+use Rattle.rpm_query.specs.Queries.{picked_packages, argument_part, query, query_of, AreOfEach, AreQuestions}
 use Rattle.rpm_commit.specs.Tasks.{asked_task, asked_course, reads_shelf, is_anew, changes_index, needs_none}
 
 -- One run: its words and its moment, how it ended, what it found and left, what out and err had taken before.
@@ -46,9 +51,20 @@ pub record Run {D S : Type 0} (d : disk.Ghosts D) (s : shelf.Ghosts S) : Type 0 
   pub before : Outputs
 
 -- what one call of run did, as one record
-abbrev pub ran : {D S : Type 0} (d : disk.Ghosts D) (s : shelf.Ghosts S) → List (List ℕ) → ℕ → Why → ℕ → D × S → Outputs → D × S → Run d s
+abbrev pub ran : {D S : Type 0} (d : disk.Ghosts D) (s : shelf.Ghosts S) → List (List ℕ) → ℕ → Why → ℕ → D × S → Outputs
+    → D × S → Run d s
 ran d s words now why changes old before new =
-    record { words = words; moment = now; why = why; changes = changes; found = old.0; left = new.0; shelf_found = old.1; shelf_left = new.1; before = before }
+    record {
+      words = words;
+      moment = now;
+      why = why;
+      changes = changes;
+      found = old.0;
+      left = new.0;
+      shelf_found = old.1;
+      shelf_left = new.1;
+      before = before;
+    }
 
 -- 1. WORDS that break a rule, and a format that has a fault, are answered so, exactly there, with the first.
 pub record AnswersWords (words : List (List ℕ)) (given : Why) : Type 0 where
@@ -65,7 +81,8 @@ module _ {D S : Type 0} {d : disk.Ghosts D} {s : shelf.Ghosts S} where
 
   -- 3. PACKAGE FILES are queried with no call on the disk.
   pub record AnswersOfFiles (r : Run d s) (a : AskParts) (tree : Tree) (mid : Outputs) : Type 0 where
-    pub went : IsTrue s.tells → CommandProgress (query_files tree (s.paths r.shelf_found) r.words a) r.why r.before mid Anywhere
+    pub went : IsTrue s.tells → CommandProgress (query_files tree (s.paths r.shelf_found) r.words a) r.why r.before mid
+        Anywhere
     pub disk_unread : r.left ≡ r.found
 
   -- 4. TEXTS on the program itself, its help and its version, are printed with no call on disk and shelf.
@@ -73,9 +90,10 @@ module _ {D S : Type 0} {d : disk.Ghosts D} {s : shelf.Ghosts S} where
     pub went : CommandProgress (text_course text) r.why r.before mid Anywhere
     pub unread : (r.left ≡ r.found) × (r.shelf_left ≡ r.shelf_found)
 
-  -- 5. QUESTIONS BY KEY, and reports on requirements, finish what a crash left, and make a stale index anew. Whatever they answer, a malformed log
-  -- stays with the files beside it, and no other becomes malformed (`kept`). Where there is nothing to finish or to make, no file changes (`still`).
-  -- A crash leaves the packages, and the log in the same way, whatever the index holds (`leaves`).
+  -- 5. QUESTIONS BY KEY, and reports on requirements, finish what a crash left, and make a stale index anew. Whatever
+  -- they answer, a malformed log stays with the files beside it, and no other becomes malformed (`kept`). Where there
+  -- is nothing to finish or to make, no file changes (`still`). A crash leaves the packages, and the log in the same
+  -- way, whatever the index holds (`leaves`).
   pub record AnswersKeyed (r : Run d s) (a : AskParts) (tree : Tree) (mid : Outputs) : Type 0 where
     pub went : KeyedAnswer tree r.words a (d.files r.found) r.why r.before mid (pkg_read d r.found) (pkg_read d r.left)
     pub reads : is_query a.mode ≡ true → IsUsableDatabase (d.files r.found)
@@ -83,13 +101,15 @@ module _ {D S : Type 0} {d : disk.Ghosts D} {s : shelf.Ghosts S} where
     pub kind : is_foreign r.why ≡ false
     pub full : IndexFullIs (reopened (d.files r.found)) r.why
     pub bad : BadIs r.words a (reopened (d.files r.found)) r.why
-    pub complete : IsUsableDatabase (d.files r.found) → HasRoom (reopened (d.files r.found)) → is_done_or_outside r.why ≡ true
+    pub complete : IsUsableDatabase (d.files r.found) → HasRoom (reopened (d.files r.found))
+        → is_done_or_outside r.why ≡ true
     pub index : IsUsableDatabase (d.files r.found) → is_done r.why ≡ true → HasClosedIndex (d.files r.left)
     pub packages : (reopened (d.files r.left)).pkg ≡ (reopened (d.files r.found)).pkg
     pub kept : KeepsLog (d.files r.found) (d.files r.left)
     pub still : IsAtRest (d.files r.found) → d.files r.left ≡ d.files r.found
-    pub leaves : LeavesIn d r.found r.left (KeepsPackages (images d r.found))
-    pub stops : AreLawfulDatabases (images d r.found) → LeavesIn d r.found r.left (IsLawfulAndSame (images d r.found))
+    pub leaves : CrashLeaves d r.found r.left (KeepsPackages (images d r.found))
+    pub crashes : AreLawfulDatabases (images d r.found)
+        → CrashLeaves d r.found r.left (IsLawfulAndSame (images d r.found))
 
   -- 6. CHANGES of a command are one transaction: all made and counted, or none; each ending leaves `ChangesWith`.
   pub record AnswersChange (r : Run d s) (a : AskParts) (course : State → Course) (mid : Outputs) : Type 0 where
@@ -114,7 +134,7 @@ module _ {D S : Type 0} {d : disk.Ghosts D} {s : shelf.Ghosts S} where
         → AnswersChange r a (asked_course (s.paths r.shelf_found) r.moment r.words a) mid
     pub empty : is_changing a ≡ true → IsTrue d.tells
         → EmptyBy (needs_none (asked_task r.words a)) (reopened (d.files r.found)) r.why
-    pub looks : by_key a ≡ false → is_changing a ≡ false → Leaves d r.found r.left
+    pub looks : by_key a ≡ false → is_changing a ≡ false → OnlyReadsPackages d r.found r.left
     pub shelf_unread : of_files a ≡ false → reads_shelf (asked_task r.words a) ≡ false → r.shelf_left ≡ r.shelf_found
 
   -- What `run` answers for all words.
@@ -138,11 +158,12 @@ pub record Causes {D S O E : Type 0} (d : disk.Ghosts D) (s : shelf.Ghosts S) (o
 pub record Laws (words : List (List ℕ)) : Type 0 where
   -- `--after` leaves out the steps for packages up to its number, and no others; with package files none
   pub after : (tree : Tree) (packages : FinMap nat_cmp Package) (a : AskParts)
-      → (query tree packages words a).steps ≡ steps_above a.after (query tree packages words (passing 0 a)).steps
-  pub files_after : (tree : Tree) (paths : Paths) (n : ℕ) (a : AskParts) → query_files tree paths words (passing n a) ≡ query_files tree paths words a
+      → (query tree packages words a).steps ≡ steps_above a.after (query tree packages words (with_after 0 a)).steps
+  pub files_after : (tree : Tree) (paths : Paths) (n : ℕ) (a : AskParts)
+      → query_files tree paths words (with_after n a) ≡ query_files tree paths words a
   -- an argument's packages are those that it picks above `--after`, each once and rising
   pub numbers : (tree : Tree) (packages : FinMap nat_cmp Package) (chosen : Chosen) (after j : ℕ) (text : List ℕ)
-      → AreOfEach after (picked packages chosen text) (argument_part tree packages chosen after j text).steps
+      → AreOfEach after (picked_packages packages chosen text) (argument_part tree packages chosen after j text).steps
   -- and those of a query without arguments all above it
   pub all_numbers : (tree : Tree) (packages : FinMap nat_cmp Package) (chosen : Chosen) (after : ℕ)
       → AreOfEach after (picks packages question.All) (query_of tree packages chosen after []).steps

@@ -1,7 +1,7 @@
 //! The top call: a command line does what its command's steps say.
 
 ghost use Rattle.std.specs.Prelude.{◌≡◌, true, false, None};
-ghost use Rattle.rpm_tool.specs.Prelude.{Answers, AnswersWords, asks, Causes, closing, DiskFault, Ends, Laws, outs, ran, shown, status_of, Streams};
+ghost use Rattle.rpm_tool.specs.Prelude.{Answers, AnswersWords, asks, Causes, closing, DiskFault, ClosingEnding, Laws, outs, ran, shown_outputs, status_of, Streams};
 
 use crate::keyed::answer_keyed;
 use crate::loaded::answer_loaded;
@@ -26,7 +26,7 @@ fn command<D: Disk, S: Shelf, O: Sink + Drop, E: Sink + Drop>(
     ensures words { AnswersWords words.now result.0.why }
     ensures unread { asks words.now ≡ None → (result.1 ≡ disk) × (shelf.new ≡ shelf.old) × (out.new ≡ out.old) × (err.new ≡ err.old) }
     ensures answers { Answers (ran D.Disk S.Shelf words.now now result.0.why result.0.changes (disk, shelf.old)
-        (shown O.Sink E.Sink out.old err.old) (result.1, shelf.new)) (shown O.Sink E.Sink out.new err.new) }
+        (shown_outputs O.Sink E.Sink out.old err.old) (result.1, shelf.new)) (shown_outputs O.Sink E.Sink out.new err.new) }
     ensures disk { DiskFault D.Disk (result.0.why ≡ Why.DiskFault) disk result.1 }
     ensures streams { Streams S.Shelf O.Sink E.Sink true (λ why. result.0.why ≡ why) (shelf.old, out.old, err.old) (shelf.new, out.new, err.new) }
 {
@@ -44,12 +44,12 @@ fn command<D: Disk, S: Shelf, O: Sink + Drop, E: Sink + Drop>(
             let why = print_text(text, out);
             (CommandEnding { why, changes: 0 }, disk)
         }
-        Kind::Keyed(deed) => {
-            let (why, disk) = answer_keyed(alloc, disk, words, &ask, deed, &format, out, err);
+        Kind::Keyed(request) => {
+            let (why, disk) = answer_keyed(alloc, disk, words, &ask, request, &format, out, err);
             (CommandEnding { why, changes: 0 }, disk)
         }
-        Kind::Plain(deed) => {
-            let (why, disk) = answer_loaded(alloc, disk, words, &ask, deed, &format, out, err);
+        Kind::Plain(request) => {
+            let (why, disk) = answer_loaded(alloc, disk, words, &ask, request, &format, out, err);
             (CommandEnding { why, changes: 0 }, disk)
         }
     }
@@ -121,7 +121,7 @@ pub fn run<D: Disk, S: Shelf, O: Sink, E: Sink>(
     ensures unread { asks words.now ≡ None → (result.1 ≡ disk) × (shelf.new ≡ shelf.old) × (out.new ≡ out.old) }
 
     // The theorem: the command of the words, and the line that closes it.
-    ensures answers { Ends (Answers (ran D.Disk S.Shelf words.now now result.0.why result.0.changes (disk, shelf.old)
+    ensures answers { ClosingEnding (Answers (ran D.Disk S.Shelf words.now now result.0.why result.0.changes (disk, shelf.old)
         (outs O.Sink E.Sink out.old err.old) (result.1, shelf.new))) (closing words.now result.0.why)
         (outs O.Sink E.Sink out.new err.new) (E.faults err.old) (E.faults err.new) }
     ensures causes { Causes D.Disk S.Shelf O.Sink E.Sink result.0.why (disk, shelf.old, out.old, err.old) (result.1, shelf.new, out.new, err.new) }

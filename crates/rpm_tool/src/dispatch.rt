@@ -1,12 +1,12 @@
 //! `AnswersPlain` and `AnswersKeyed` of the theorem: what a command does with a database that was opened.
 
 ghost use Rattle.std.specs.Prelude.{◌≡◌, [], false, Err, IfErr};
-ghost use Rattle.rpm_tool.specs.Prelude.{deed_of, DiskFault, OpenedAnswer, EndHands, is_foreign, is_of_opening, IsAskable, IsOfPrint, shown, why_of_report};
+ghost use Rattle.rpm_tool.specs.Prelude.{request_of, DiskFault, OpenedAnswer, EndHands, is_foreign, is_of_opening, IsAskable, IsOfPrint, shown_outputs, why_of_report};
 
 use rpm_db::Db;
 use rpm_effects::{Halt, Why};
 use rpm_outside::{Buffered, Disk, File, Sink};
-use rpm_print::Deed;
+use rpm_print::Request;
 use rpm_qfparse::Format;
 use rpm_query::{query_all, query_each};
 use rpm_report::{check_files, report, report_order, report_unmet};
@@ -14,7 +14,7 @@ use rpm_words::{Ask, Words};
 use std::alloc::Global;
 
 /// The ending of a report, of whether its one argument failed.
-#[tactic(auto, using(rpm_effects::specs::inner::Halts::of_report))]
+#[tactic(auto, using(rpm_effects::specs::laws::Halts::of_report))]
 fn why_of_report(told: Result<bool, Halt>) -> Why
     requires class { IfErr told IsOfPrint }
     ensures value { result ≡ why_of_report told }
@@ -38,33 +38,42 @@ pub fn answer_opened<D: Disk, O: Sink + Drop, E: Sink + Drop>(
     disk: &mut D,
     words: &Words,
     ask: &Ask,
-    deed: Deed,
+    request: Request,
     format: &Format,
     out: &mut Buffered<O>,
     err: &mut Buffered<E>,
 ) -> Why
     requires asked { IsAskable D.Disk disk.old db.now }
-    requires deed { deed ≡ deed_of ask.now.mode }
-    ensures does { OpenedAnswer D.Disk (deed_of ask.now.mode) format.now db.now words.now ask.now result
-        (shown O.Sink E.Sink out.old err.old) (shown O.Sink E.Sink out.new err.new) disk.old disk.new }
+    requires request { request ≡ request_of ask.now.mode }
+    ensures does { OpenedAnswer D.Disk (request_of ask.now.mode) format.now db.now words.now ask.now result
+        (shown_outputs O.Sink E.Sink out.old err.old) (shown_outputs O.Sink E.Sink out.new err.new) disk.old disk.new }
     ensures done { is_foreign result ≡ false }
     ensures opened { is_of_opening result ≡ false }
     ensures disk { DiskFault D.Disk (result ≡ Why.DiskFault) disk.old disk.new }
     ensures hands { EndHands O.Sink E.Sink result out.old err.old out.new err.new }
 {
-    match deed {
-        Deed::Print => {
+    match request {
+        Request::Print => {
             let count = ask.arguments();
             if count == 0 {
-                query_all(alloc, db, disk, ask.after(), Deed::Print, format, out, err)
+                query_all(
+                    alloc,
+                    db,
+                    disk,
+                    ask.after(),
+                    Request::Print,
+                    format,
+                    out,
+                    err,
+                )
             } else {
                 query_each(alloc, db, disk, words, ask, format, out, err)
             }
         }
-        Deed::Export => query_all(alloc, db, disk, 0, Deed::Export, format, out, err),
-        Deed::Verify => report(alloc, db, disk, out),
-        Deed::CheckFiles => check_files(alloc, db, disk, out, err),
-        Deed::Unmet => why_of_report(report_unmet(alloc, db, disk, out, err)),
-        Deed::Order => why_of_report(report_order(alloc, db, disk, out, err)),
+        Request::Export => query_all(alloc, db, disk, 0, Request::Export, format, out, err),
+        Request::Verify => report(alloc, db, disk, out),
+        Request::CheckFiles => check_files(alloc, db, disk, out, err),
+        Request::Unmet => why_of_report(report_unmet(alloc, db, disk, out, err)),
+        Request::Order => why_of_report(report_order(alloc, db, disk, out, err)),
     }
 }

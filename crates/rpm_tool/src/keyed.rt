@@ -2,14 +2,14 @@
 //! and change no package.
 
 ghost use Rattle.std.specs.Prelude.{◌≡◌, false, IsTrue};
-ghost use Rattle.rpm_tool.specs.Prelude.{AnswersByKey, deed_of, DiskFault, EndHands, is_foreign, shown};
+ghost use Rattle.rpm_tool.specs.Prelude.{AnswersByKey, request_of, DiskFault, EndHands, is_foreign, shown_outputs};
 
 use crate::dispatch::answer_opened;
 use rpm_db::Db;
 use rpm_effects::{Why, why_of_open, why_of_recover};
 use rpm_group::recover;
 use rpm_outside::{Buffered, Disk, File, Sink};
-use rpm_print::Deed;
+use rpm_print::Request;
 use rpm_qfparse::Format;
 use rpm_words::{Ask, Words};
 use std::alloc::Global;
@@ -23,14 +23,14 @@ pub fn answer_keyed<D: Disk, O: Sink + Drop, E: Sink + Drop>(
     disk: D,
     words: &Words,
     ask: &Ask,
-    deed: Deed,
+    request: Request,
     format: &Format,
     out: &mut Buffered<O>,
     err: &mut Buffered<E>,
 ) -> (Why, D)
-    requires deed { deed ≡ deed_of ask.now.mode }
+    requires request { request ≡ request_of ask.now.mode }
     ensures keyed { IsTrue D.tells → AnswersByKey D.Disk format.now words.now ask.now result.0
-        (shown O.Sink E.Sink out.old err.old) (shown O.Sink E.Sink out.new err.new) disk result.1 }
+        (shown_outputs O.Sink E.Sink out.old err.old) (shown_outputs O.Sink E.Sink out.new err.new) disk result.1 }
     ensures goes_on { D.follows disk result.1 }
     ensures done { is_foreign result.0 ≡ false }
     ensures disk { DiskFault D.Disk (result.0 ≡ Why.DiskFault) disk result.1 }
@@ -38,9 +38,11 @@ pub fn answer_keyed<D: Disk, O: Sink + Drop, E: Sink + Drop>(
 {
     let mut disk = disk;
     match recover(&mut disk) {
-        Ok(_) => match Db::open_settled(alloc, &mut disk) {
+        Ok(_) => match Db::open_durable(alloc, &mut disk) {
             Ok(db) => {
-                let why = answer_opened(alloc, &db, &mut disk, words, ask, deed, format, out, err);
+                let why = answer_opened(
+                    alloc, &db, &mut disk, words, ask, request, format, out, err,
+                );
                 (why, disk)
             }
             Err(fault) => (why_of_open(fault), disk),

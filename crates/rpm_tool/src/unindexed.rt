@@ -1,13 +1,13 @@
 //! `AnswersPlain` of the theorem: the commands that open the database without its index.
 
 ghost use Rattle.std.specs.Prelude.{◌≡◌, ◌+◌, ◌≤◌, ℕ, [], false, IsTrue};
-ghost use Rattle.rpm_tool.specs.Prelude.{always_keyed, deed_of, PlainProgress, DiskFault, EndHands, is_foreign, Looks, StoreAnswer, Pkg, pkg_read, query_cost, shown, store};
+ghost use Rattle.rpm_tool.specs.Prelude.{always_keyed, request_of, PlainProgress, DiskFault, EndHands, is_foreign, OnlyReads, StoreAnswer, Pkg, pkg_read, query_cost, shown_outputs, store};
 
 use crate::dispatch::answer_opened;
 use rpm_db::{Db, DbOpenFault};
 use rpm_effects::Why;
 use rpm_outside::{Buffered, Disk, File, Sink};
-use rpm_print::Deed;
+use rpm_print::Request;
 use rpm_qfparse::Format;
 use rpm_words::{Ask, Words};
 use std::alloc::Global;
@@ -20,24 +20,24 @@ pub fn answer_unindexed<D: Disk, O: Sink + Drop, E: Sink + Drop>(
     disk: &mut D,
     words: &Words,
     ask: &Ask,
-    deed: Deed,
+    request: Request,
     format: &Format,
     out: &mut Buffered<O>,
     err: &mut Buffered<E>,
 ) -> Why
-    requires deed { deed ≡ deed_of ask.now.mode }
-    requires plain { always_keyed (deed_of ask.now.mode) ≡ false }
+    requires request { request ≡ request_of ask.now.mode }
+    requires plain { always_keyed (request_of ask.now.mode) ≡ false }
     ensures went { IsTrue D.tells → StoreAnswer (PlainProgress format.now words.now ask.now (D.files disk.old).pkg
         (pkg_read D.Disk disk.old) (pkg_read D.Disk disk.new)) (store (D.files disk.old).pkg) result
-        (shown O.Sink E.Sink out.old err.old) (shown O.Sink E.Sink out.new err.new) }
+        (shown_outputs O.Sink E.Sink out.old err.old) (shown_outputs O.Sink E.Sink out.new err.new) }
     ensures reads { IsTrue D.tells → pkg_read D.Disk disk.new ≤ pkg_read D.Disk disk.old + query_cost words.now ask.now (D.files disk.old).pkg }
     ensures done { is_foreign result ≡ false }
-    ensures looks { (most : ℕ) × Looks D.Disk Pkg most disk.old disk.new }
+    ensures looks { (most : ℕ) × OnlyReads D.Disk Pkg most disk.old disk.new }
     ensures disk { DiskFault D.Disk (result ≡ Why.DiskFault) disk.old disk.new }
     ensures hands { EndHands O.Sink E.Sink result out.old err.old out.new err.new }
 {
     match Db::open_unindexed(alloc, disk) {
-        Ok(db) => answer_opened(alloc, &db, disk, words, ask, deed, format, out, err),
+        Ok(db) => answer_opened(alloc, &db, disk, words, ask, request, format, out, err),
         Err(DbOpenFault::Damaged(damage)) => Why::Damaged(damage),
         Err(DbOpenFault::DiskFault) => Why::DiskFault,
         Err(DbOpenFault::NoMemory) => Why::NoMemory,

@@ -143,7 +143,7 @@ const ZEROS: &[u8] = b"RpmL\x01\0\0\0\x01\0\0\0\x02\0\0\0\
     \0\0\0\0\0\0\0\0\0\0\0\0\0\0\0\0";
 
 #[test]
-fn a_group_is_finished_over_a_partial_unit(rt: HostRuntime) -> Result<(), Fail> {
+fn a_transaction_is_finished_over_a_partial_unit(rt: HostRuntime) -> Result<(), Fail> {
     let alloc = rt.alloc();
     let pending = log(alloc)?;
     let whole = database(alloc)?;

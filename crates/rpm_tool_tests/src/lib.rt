@@ -4,6 +4,8 @@
 #[cfg(test)]
 mod changes;
 #[cfg(test)]
+mod crashes;
+#[cfg(test)]
 mod edge;
 #[cfg(test)]
 mod fixtures;
@@ -15,5 +17,3 @@ mod headers;
 mod runs;
 #[cfg(test)]
 mod several;
-#[cfg(test)]
-mod stops;

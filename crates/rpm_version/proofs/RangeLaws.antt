@@ -1,6 +1,6 @@
 -- Two ranges overlap whichever is named first.
 use Rattle.std.proofs.Common.{◌≡◌, ℕ, Bool, true, false, ◌||◌, ◌&&◌, List, refl, ap, ◌∙◌, Option, Some, None}
-use Rattle.rpm_version.proofs.Vocabulary.{Equal, equal_but_release, evr, evr_order, EvrParts, Greater, has_equal, has_greater, has_less, is_open, Less, meets}
+use Rattle.rpm_version.proofs.Vocabulary.{Equal, equal_but_release, evr, evr_order, EvrParts, Greater, has_equal, has_greater, has_less, is_open, Less, ranges_meet}
 use Rattle.rpm_version.proofs.Vocabulary.{Ordering, ordering_reverse, overlaps, share_sense}
 use Rattle.rpm_version.proofs.EvrLaws.{evr_converse}
 
@@ -30,8 +30,8 @@ releases x y (Some r) None = refl
 releases x y None (Some s) = refl
 releases x y None None = refl
 
-meets_turned : (x y : ℕ) (a b : EvrParts) (o : Ordering) → meets (ordering_reverse o) x a y b ≡ meets o y b x a
-unfolding meets
+meets_turned : (x y : ℕ) (a b : EvrParts) (o : Ordering) → ranges_meet (ordering_reverse o) x a y b ≡ ranges_meet o y b x a
+unfolding ranges_meet
 meets_turned x y a b Less = or_turned (has_less x) (has_greater y)
 meets_turned x y a b Equal = λ i. senses x y i || releases x y a.release b.release i
 meets_turned x y a b Greater = or_turned (has_greater x) (has_less y)
@@ -42,6 +42,6 @@ open_turned a b c = ap (λ v. v || c) (or_turned a b)
 pub symmetric : (x y : ℕ) (s t : List ℕ) → overlaps x s y t ≡ overlaps y t x s
 unfolding overlaps
 symmetric x y s t =
-    (λ i. is_open x s || is_open y t || meets (evr_converse (evr s) (evr t) i) x (evr s) y (evr t))
+    (λ i. is_open x s || is_open y t || ranges_meet (evr_converse (evr s) (evr t) i) x (evr s) y (evr t))
     ∙ (λ i. is_open x s || is_open y t || meets_turned x y (evr s) (evr t) (evr_order (evr t) (evr s)) i)
-    ∙ open_turned (is_open x s) (is_open y t) (meets (evr_order (evr t) (evr s)) y (evr t) x (evr s))
+    ∙ open_turned (is_open x s) (is_open y t) (ranges_meet (evr_order (evr t) (evr s)) y (evr t) x (evr s))

@@ -1,7 +1,7 @@
 -- Flags of which the bits of a sense alone are kept.
 use Rattle.std.proofs.Common.{◌≡◌, ℕ, ◌*◌, ◌^◌, Bool, true, false, ◌||◌, ◌==◌, List, Option, Some, None, refl, sym, ap, ◌∙◌, inl, inr, arith}
 use Rattle.std.specs.Prelude.{bit_and}
-use Rattle.rpm_version.proofs.Vocabulary.{bit_at, Equal, equal_but_release, evr, evr_order, EvrParts, Greater, is_open, Less, meets, Ordering, overlaps}
+use Rattle.rpm_version.proofs.Vocabulary.{bit_at, Equal, equal_but_release, evr, evr_order, EvrParts, Greater, is_open, Less, ranges_meet, Ordering, overlaps}
 use Rattle.rpm_version.proofs.Vocabulary.{share_sense}
 use Rattle.std.proofs.lemmas.Bool.{cases_Bool}
 use Rattle.std.proofs.lemmas.Bool.Decides.{nat_tests}
@@ -36,8 +36,8 @@ shared : (f flags : ℕ) → share_sense f (bit_and flags 14) ≡ share_sense f 
 unfolding share_sense
 shared f flags = rw (less_kept flags, greater_kept flags, equal_kept flags) refl
 
-meets_kept : (o : Ordering) (f : ℕ) (a : EvrParts) (flags : ℕ) (b : EvrParts) → meets o f a (bit_and flags 14) b ≡ meets o f a flags b
-unfolding meets
+meets_kept : (o : Ordering) (f : ℕ) (a : EvrParts) (flags : ℕ) (b : EvrParts) → ranges_meet o f a (bit_and flags 14) b ≡ ranges_meet o f a flags b
+unfolding ranges_meet
 meets_kept Less f a flags b = rw less_kept
 meets_kept Greater f a flags b = rw greater_kept
 meets_kept Equal f a flags b = λ i. shared f flags i || released f flags a.release b.release i
@@ -51,18 +51,18 @@ pub opened : (w : List ℕ) → is_open 0 w ≡ true
 unfolding is_open
 opened w = refl
 
-settled : (a x y : Bool) → (a || true || x) ≡ (a || true || y)
-settled true x y = refl
-settled false x y = refl
+durable : (a x y : Bool) → (a || true || x) ≡ (a || true || y)
+durable true x y = refl
+durable false x y = refl
 
 -- where every version is in a range, no flags say the same
 pub overlaps_open : (f : ℕ) (v : List ℕ) (flags : ℕ) (w : List ℕ) → true ≡ is_open flags w → overlaps f v 0 w ≡ overlaps f v flags w
 unfolding overlaps
 overlaps_open f v flags w is =
     let order = evr_order (evr v) (evr w) in
-    (λ i. is_open f v || opened w i || meets order f (evr v) 0 (evr w))
-    ∙ settled (is_open f v) (meets order f (evr v) 0 (evr w)) (meets order f (evr v) flags (evr w))
-    ∙ (λ i. is_open f v || is i || meets order f (evr v) flags (evr w))
+    (λ i. is_open f v || opened w i || ranges_meet order f (evr v) 0 (evr w))
+    ∙ durable (is_open f v) (ranges_meet order f (evr v) 0 (evr w)) (ranges_meet order f (evr v) flags (evr w))
+    ∙ (λ i. is_open f v || is i || ranges_meet order f (evr v) flags (evr w))
 
 -- where it isn't, a bit is left
 pub some_kept : (flags : ℕ) (w : List ℕ) → false ≡ is_open flags w → (bit_and flags 14 == 0) ≡ is_open flags w

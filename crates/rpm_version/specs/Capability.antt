@@ -1,5 +1,6 @@
 -- The capabilities that a command line names.
-use Rattle.std.specs.Prelude.{ℕ, List, [], ◌∷◌, Option, Some, None, Result, Ok, Err, Bool, not, ◌||◌, ◌==◌, if◌then◌else◌, length, filter, codes}
+use Rattle.std.specs.Prelude.{ℕ, List, [], ◌∷◌, Option, Some, None, Result, Ok, Err, Bool, not, ◌||◌, ◌==◌}
+use Rattle.std.specs.Prelude.{if◌then◌else◌, length, filter, codes}
 use Rattle.std.specs.List.{slice_split}
 use Rattle.std.specs.Str.{bytes_eq}
 use Rattle.rpm_version.specs.declared.capability.BadCapability.{BadCapability}
@@ -11,8 +12,8 @@ pub record CapabilityParts : Type 0 where
   pub evr : List ℕ
 
 -- a space or a tab
-abbrev pub is_blank : ℕ → Bool
-is_blank b = (b == 32) || (b == 9)
+abbrev pub is_space : ℕ → Bool
+is_space b = (b == 32) || (b == 9)
 
 -- a part of a capability is a word when it isn't empty
 abbrev pub is_word : List ℕ → Bool
@@ -20,7 +21,7 @@ is_word part = not (length part == 0)
 
 -- what stands between runs of blanks
 unfoldable pub words : List ℕ → List (List ℕ)
-words text = filter is_word (slice_split is_blank text)
+words text = filter is_word (slice_split is_space text)
 
 -- the bits of a sign: less 2, greater 4, equal 8
 unfoldable pub sense : List ℕ → Option ℕ

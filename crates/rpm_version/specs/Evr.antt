@@ -1,5 +1,6 @@
 -- Texts of an epoch, a version and a release.
-use Rattle.std.specs.Prelude.{◌≡◌, ◌≢◌, ℕ, ◌+◌, ◌<◌, length, List, [], ◌∷◌, Option, Some, None, Bool, ◌==◌, if◌then◌else◌, drop, slice_index, unwrap_or}
+use Rattle.std.specs.Prelude.{◌≡◌, ◌≢◌, ℕ, ◌+◌, ◌<◌, length, List, [], ◌∷◌, Option, Some, None, Bool, ◌==◌}
+use Rattle.std.specs.Prelude.{if◌then◌else◌, drop, slice_index, unwrap_or}
 use Rattle.std.specs.Char.{is_ascii_digit}
 use Rattle.std.specs.List.{prefix_len, take_while, list_any, before_last, after_last}
 use Rattle.std.specs.declared.cmp.Ordering.{Ordering}

@@ -33,12 +33,12 @@ equal_but_release fa None fb (Some release) = has_equal fa
 equal_but_release fa a fb b = false
 
 -- two ranges meet according to how the version of A stands to that of B: below, above, or equal
-unfoldable pub meets : Ordering → ℕ → EvrParts → ℕ → EvrParts → Bool
-meets Less fa a fb b = has_greater fa || has_less fb
-meets Greater fa a fb b = has_less fa || has_greater fb
-meets Equal fa a fb b = share_sense fa fb || equal_but_release fa a.release fb b.release
+unfoldable pub ranges_meet : Ordering → ℕ → EvrParts → ℕ → EvrParts → Bool
+ranges_meet Less fa a fb b = has_greater fa || has_less fb
+ranges_meet Greater fa a fb b = has_less fa || has_greater fb
+ranges_meet Equal fa a fb b = share_sense fa fb || equal_but_release fa a.release fb b.release
 
 -- whether two ranges overlap
 unfoldable pub overlaps : ℕ → List ℕ → ℕ → List ℕ → Bool
 overlaps fa a fb b =
-    is_open fa a || is_open fb b || meets (evr_order (evr a) (evr b)) fa (evr a) fb (evr b)
+    is_open fa a || is_open fb b || ranges_meet (evr_order (evr a) (evr b)) fa (evr a) fb (evr b)

@@ -1,7 +1,7 @@
 //! The capabilities that a command line names.
 
 ghost use Rattle.std.specs.Prelude.{◌≡◌, ◌==◌, ◌≤◌, ◌∷◌, [], ℕ, List, MatchOption, drop, length};
-ghost use Rattle.rpm_version.specs.Prelude.{capability, CapabilityParts, is_blank, is_open, overlaps, position_or_len, prefix_len, sense, words};
+ghost use Rattle.rpm_version.specs.Prelude.{capability, CapabilityParts, is_space, is_open, overlaps, position_or_len, prefix_len, sense, words};
 
 use crate::range::{EQUAL, GREATER, LESS, SENSE, is_open};
 use std::marker::Model;
@@ -25,27 +25,27 @@ impl<'a> Model for Capability<'a> {
 }
 
 fn is_blank(byte: u8) -> bool
-    ensures { result ≡ is_blank byte }
+    ensures { result ≡ is_space byte }
 {
     byte == b' ' || byte == b'\t'
 }
 
 fn blanks_len(text: &[u8]) -> usize
-    ensures length { result ≡ prefix_len is_blank text.now }
+    ensures length { result ≡ prefix_len is_space text.now }
     ensures within { result ≤ length text.now }
 {
     text.iter().take_while(|byte| is_blank(**byte)).count()
 }
 
 fn word_len(text: &[u8]) -> usize
-    ensures length { result ≡ position_or_len is_blank text.now }
+    ensures length { result ≡ position_or_len is_space text.now }
     ensures within { result ≤ length text.now }
 {
     text.iter().take_while(|byte| !is_blank(**byte)).count()
 }
 
 fn without_blanks(text: &[u8]) -> &[u8]
-    ensures { result.now ≡ drop (prefix_len is_blank text.now) text.now }
+    ensures { result.now ≡ drop (prefix_len is_space text.now) text.now }
 {
     &text[blanks_len(text)..]
 }

@@ -1,7 +1,7 @@
 //! Ranges of versions: the bits of a sense, and the version that they stand beside.
 
 ghost use Rattle.std.specs.Prelude.{◌≡◌, ◌==◌, ℕ, List, not, bit_and, option_copied};
-ghost use Rattle.rpm_version.specs.Prelude.{equal_but_release, evr_order, is_open, meets, overlaps, share_sense};
+ghost use Rattle.rpm_version.specs.Prelude.{equal_but_release, evr_order, is_open, ranges_meet, overlaps, share_sense};
 
 use crate::evr::{Evr, compare_evr};
 use std::cmp::Ordering;
@@ -56,9 +56,9 @@ fn equal_but_release(a_flags: u32, a: Option<&[u8]>, b_flags: u32, b: Option<&[u
 }
 
 /// Whether two ranges meet, neither of which holds every version.
-#[tactic(auto, unfolding(crate::specs::Range::meets))]
+#[tactic(auto, unfolding(crate::specs::Range::ranges_meet))]
 fn meet(a_flags: u32, a: &Evr<'_>, b_flags: u32, b: &Evr<'_>) -> bool
-    ensures { result ≡ meets (evr_order a.now b.now) a_flags a.now b_flags b.now }
+    ensures { result ≡ ranges_meet (evr_order a.now b.now) a_flags a.now b_flags b.now }
 {
     match compare_evr(a, b) {
         Ordering::Less => has(a_flags, GREATER) || has(b_flags, LESS),

@@ -1,6 +1,6 @@
 -- What holds of each of several rules holds of the first.
 use Rattle.std.proofs.Common.{◌≡◌, ℕ, List, [], ◌∷◌, Option, Some, None, Bool, true, false, cond}
-use Rattle.rpm_words.proofs.Vocabulary.{best_of, cons_option, earliest, fault, head, is_before, NoMemory, option_map, WordsFault, WordsKind}
+use Rattle.rpm_words.proofs.Vocabulary.{best_of, cons_option, earliest, fault, command_word, is_before, NoMemory, option_map, WordsFault, WordsKind}
 
 abbrev IsRule : WordsFault → Type 0
 IsRule f = f.kind ≡ NoMemory → ⊥
@@ -37,6 +37,6 @@ pub earliest_rule : (fs : List WordsFault) → AllRules fs → AreRules (earlies
 earliest_rule [] k = tt
 earliest_rule (f ∷ fs) k = best_rule f fs k.0 k.1
 
-pub head_rule : (fs : List WordsFault) → AllRules fs → AreRules (head fs)
+pub head_rule : (fs : List WordsFault) → AllRules fs → AreRules (command_word fs)
 head_rule [] k = tt
 head_rule (f ∷ fs) k = k.0

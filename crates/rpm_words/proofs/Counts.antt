@@ -1,7 +1,7 @@
 -- There are no more arguments than words.
 use Rattle.std.proofs.Common.{◌≡◌, ℕ, ◌+◌, ◌≤◌, List, [], ◌∷◌, Option, Some, None, length, drop, refl, ◌∙◌, arith, length-append, length-drop}
 use Rattle.rpm_words.proofs.Vocabulary.{argument_in, arguments, Awaits, Cluster, cons_option, Ends, filter_map, Inline, letters, Name, option_at, option_map}
-use Rattle.rpm_words.proofs.Vocabulary.{Plain, Program, Purpose, purpose_behind, Rest, said, said_behind, says, short_switch, Switch, Token, Unknown, Value}
+use Rattle.rpm_words.proofs.Vocabulary.{Plain, Program, Purpose, purpose_behind, Rest, said_tokens, said_behind, says, short_switch, Switch, Token, Unknown, Value}
 use Rattle.rpm_words.proofs.Vocabulary.{Whole}
 use Rattle.std.proofs.lemmas.List.Elements.{filter_map-append}
 
@@ -42,6 +42,6 @@ behind program previous i (text ∷ rest) =
       length-append (filter_map argument_in (says i purpose text)) (filter_map argument_in (said_behind program purpose (i + 1) rest)),
     ))
 
-pub few_arguments : (program : Program) (words : List (List ℕ)) → length (arguments (said program words)) ≤ length words
-unfolding arguments said
+pub few_arguments : (program : Program) (words : List (List ℕ)) → length (arguments (said_tokens program words)) ≤ length words
+unfolding arguments said_tokens
 few_arguments program words = omega (arith, behind program Name 1 (drop 1 words), length-drop 1 words)

@@ -2,7 +2,7 @@
 use Rattle.std.proofs.Common.{◌≡◌, ℕ, ◌+◌, ◌≤◌, List, [], ◌∷◌, ◌++◌, Option, Some, None, unwrap_or, length, drop, refl, ap, sym, ◌∙◌, arith}
 use Rattle.rpm_words.proofs.Vocabulary.{After, Awaits, Choose, Cluster, cons_option, Ends, filter_map, Folder, folder, folder_behind, folder_in, Format}
 use Rattle.rpm_words.proofs.Vocabulary.{Inline, last_or, letters, Lists, Mode, Name, Nofiles, Noindex, option_at, option_map, own_place, Plain, Program}
-use Rattle.rpm_words.proofs.Vocabulary.{Purpose, purpose_behind, Rest, said, said_behind, says, short_switch, slice_get, Switch, text_at, Token, Unknown}
+use Rattle.rpm_words.proofs.Vocabulary.{Purpose, purpose_behind, Rest, said_tokens, said_behind, says, short_switch, slice_get, Switch, word_at, Token, Unknown}
 use Rattle.rpm_words.proofs.Vocabulary.{Value, Whole}
 use Rattle.std.proofs.lemmas.List.Elements.{filter_map-append}
 use Rattle.std.proofs.lemmas.Grind.{common_steps}
@@ -44,10 +44,10 @@ letters_none : (words : List (List ℕ)) (word : ℕ) (text : List ℕ) → filt
 letters_none words word [] = refl
 letters_none words word (b ∷ rest) = no_letter_by words word (short_switch b) (letters word rest) (no_letter b) ∙ letters_none words word rest
 
-text_there : (words : List (List ℕ)) (i : ℕ) (text : List ℕ) → slice_get words i ≡ Some text → text_at words i ≡ text
+text_there : (words : List (List ℕ)) (i : ℕ) (text : List ℕ) → slice_get words i ≡ Some text → word_at words i ≡ text
 text_there words i text h = rw h
 
-one_word : (words : List (List ℕ)) (i : ℕ) (purpose : Purpose) (text before : List ℕ) → text_at words i ≡ text →
+one_word : (words : List (List ℕ)) (i : ℕ) (purpose : Purpose) (text before : List ℕ) → word_at words i ≡ text →
     last_or (Some before) (filter_map (folder_in words) (says i purpose text)) ≡ Some (folder_behind purpose text before)
 one_word words i Name text before h = refl
 one_word words i Unknown text before h = refl
@@ -89,7 +89,7 @@ one_word words i Plain text before h = refl
 one_word words i Rest text before h = refl
 
 pub folder_begin : (words : List (List ℕ)) (program : Program) → last_folder words program Name 1 own_place ≡ folder program words
-unfolding last_folder folder said
+unfolding last_folder folder said_tokens
 folder_begin words program = sym (last_or-some None own_place (filter_map (folder_in words) (said_behind program Name 1 (drop 1 words))))
 
 pub folder_step : (words : List (List ℕ)) (program : Program) (previous purpose : Purpose) (i : ℕ) (text before after all : List ℕ) →

@@ -12,3 +12,4 @@ pub mod Tokens
 pub mod Told
 pub mod Within
 pub mod Vocabulary
+pub mod Numbered

@@ -1,10 +1,10 @@
 -- No rule of a command line is about memory.
 use Rattle.std.proofs.Common.{◌≡◌, ℕ, List, [], ◌∷◌, Option, Some, None, false, ◌||◌, nat_lt, length, is_none, unwrap_or}
-use Rattle.rpm_words.proofs.Vocabulary.{Argument, argument_fault, bad_argument, Capability, capability, checked, Chosen, Command, early_fault, Expected}
-use Rattle.rpm_words.proofs.Vocabulary.{expected, ExtraArgument, fault, fewest, filter_map, first_broken, first_told, Gives, is_awaiting, is_bad_number}
-use Rattle.rpm_words.proofs.Vocabulary.{is_err, is_misplaced, is_other, is_refused, Label, lacks_option, Misplaced, misplaced, misplaced_in, misplaced_said}
+use Rattle.rpm_words.proofs.Vocabulary.{Argument, argument_fault, bad_argument, Capability, capability, checked_arguments, Chosen, Command, early_word_fault, Expected}
+use Rattle.rpm_words.proofs.Vocabulary.{expected_form, ExtraArgument, fault, fewest, filter_map, first_broken, first_told, Gives, is_awaiting, is_bad_number}
+use Rattle.rpm_words.proofs.Vocabulary.{is_err, is_misplaced, is_other, is_refused, Label, lacks_option, Misplaced, first_misplaced, misplaced_in, misplaced_said}
 use Rattle.rpm_words.proofs.Vocabulary.{MissingArgument, most, no_mode, no_value, NoMemory, NoMode, Number, number, option_map_or, Query, Refused, Said, Seen}
-use Rattle.rpm_words.proofs.Vocabulary.{Sets, slice_get, takes, Text, text_at, Token, token_fault, too_few, too_many, WordsFault}
+use Rattle.rpm_words.proofs.Vocabulary.{Sets, slice_get, takes, Text, word_at, Token, token_fault, too_few, too_many, WordsFault}
 use Rattle.rpm_words.proofs.AnyRule.{AllRules, AreRules, earliest_rule, head_rule, mapped, rules_cons, test}
 
 token_rule : (words : List (List ℕ)) (command : Option Command) (chosen : Option Chosen) (token : Token) → AreRules (token_fault words command chosen token)
@@ -17,14 +17,14 @@ token_rules words command chosen [] = tt
 token_rules words command chosen (token ∷ tokens) = rules_cons _ _ (token_rule words command chosen token) (token_rules words command chosen tokens)
 
 early_rule : (words : List (List ℕ)) (command : Option Command) (chosen : Option Chosen) (tokens : List Token) →
-    AreRules (early_fault words command chosen tokens)
-unfolding early_fault
+    AreRules (early_word_fault words command chosen tokens)
+unfolding early_word_fault
 early_rule words command chosen tokens = earliest_rule _ (token_rules words command chosen tokens)
 
 argument_rule : (words : List (List ℕ)) (kind : Expected) (word : ℕ) → AreRules (argument_fault words kind word)
 argument_rule words Text word = tt
-argument_rule words Number word = test (is_none (number (text_at words word))) _ _ (λ e. cc) tt
-argument_rule words Capability word = test (is_err (capability (text_at words word))) _ _ (λ e. cc) tt
+argument_rule words Number word = test (is_none (number (word_at words word))) _ _ (λ e. cc) tt
+argument_rule words Capability word = test (is_err (capability (word_at words word))) _ _ (λ e. cc) tt
 
 argument_rules : (words : List (List ℕ)) (kind : Expected) (arguments : List ℕ) → AllRules (filter_map (argument_fault words kind) arguments)
 argument_rules words kind [] = tt
@@ -44,8 +44,8 @@ misplaced_rules : (command : Command) (tokens : List Token) → AllRules (filter
 misplaced_rules command [] = tt
 misplaced_rules command (token ∷ tokens) = rules_cons _ _ (said_rule command token.word token.said) (misplaced_rules command tokens)
 
-misplaced_rule : (command : Command) (tokens : List Token) → AreRules (misplaced command tokens)
-unfolding misplaced
+misplaced_rule : (command : Command) (tokens : List Token) → AreRules (first_misplaced command tokens)
+unfolding first_misplaced
 misplaced_rule command tokens = head_rule _ (misplaced_rules command tokens)
 
 abbrev EachRule : List (Option WordsFault) → Type 0
@@ -64,13 +64,13 @@ broken_rule words tokens seen arguments =
     let taken = takes command (unwrap_or seen.chosen Label) in
     let missing = fault MissingArgument (length words) in
     told_rule
-    (early_fault words seen.command seen.chosen tokens
+    (early_word_fault words seen.command seen.chosen tokens
     ∷ no_value words seen.last
     ∷ no_mode words seen.command
-    ∷ misplaced command tokens
+    ∷ first_misplaced command tokens
     ∷ too_few words command seen taken arguments
     ∷ too_many taken arguments
-    ∷ bad_argument words (expected taken) (checked taken arguments)
+    ∷ bad_argument words (expected_form taken) (checked_arguments taken arguments)
     ∷ []) (
       early_rule words seen.command seen.chosen tokens,
       (
@@ -83,7 +83,7 @@ broken_rule words tokens seen arguments =
               test (lacks_option command seen || nat_lt (length arguments) (fewest taken)) missing None (λ e. cc) tt,
               (
                 mapped ExtraArgument (option_map_or (slice_get arguments) (most taken) None) (λ e. cc),
-                (bad_rule words (expected taken) (checked taken arguments), tt),
+                (bad_rule words (expected_form taken) (checked_arguments taken arguments), tt),
               ),
             ),
           ),

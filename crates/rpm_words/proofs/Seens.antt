@@ -1,13 +1,13 @@
 -- What the options come to, one more token at a time.
 use Rattle.std.proofs.Common.{◌≡◌, ℕ, ◌+◌, ◌<◌, List, ◌∷◌, Option, Some, None, Bool, true, false, ◌||◌, length, drop, suc, get_or, refl, ap, sym, ◌∙◌, add-one, drop-cons}
-use Rattle.rpm_words.proofs.Vocabulary.{after_in, chosen_of, command_of, cons_option, exercise_in, filter_map, head, is_nofiles, is_noindex, last_or}
+use Rattle.rpm_words.proofs.Vocabulary.{after_in, chosen_of, command_of, cons_option, exercise_in, filter_map, command_word, is_nofiles, is_noindex, last_or}
 use Rattle.rpm_words.proofs.Vocabulary.{list_any, option_or, printed_in, Seen, seen_with, Token}
 
 -- what the tokens come to, after those that come to `before`
 abbrev pub seen_behind : List (List ℕ) → Seen → List Token → Seen
 seen_behind words before tokens = record {
-  command = option_or before.command (head (filter_map command_of tokens));
-  chosen = option_or before.chosen (head (filter_map chosen_of tokens));
+  command = option_or before.command (command_word (filter_map command_of tokens));
+  chosen = option_or before.chosen (command_word (filter_map chosen_of tokens));
   printed = last_or before.printed (filter_map printed_in tokens);
   after = last_or before.after (filter_map (after_in words) tokens);
   exercise = last_or before.exercise (filter_map (exercise_in words) tokens);
@@ -16,7 +16,7 @@ seen_behind words before tokens = record {
   last = last_or before.last tokens;
 }
 
-head_cons : {X : Type 0} (o v : Option X) (rest : List X) → option_or o (head (cons_option v rest)) ≡ option_or (option_or o v) (head rest)
+head_cons : {X : Type 0} (o v : Option X) (rest : List X) → option_or o (command_word (cons_option v rest)) ≡ option_or (option_or o v) (command_word rest)
 head_cons None None rest = refl
 head_cons None (Some x) rest = refl
 head_cons (Some y) None rest = refl

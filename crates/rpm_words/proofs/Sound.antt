@@ -1,9 +1,9 @@
 -- What is so of each command that words ask for.
 use Rattle.std.proofs.Common.{◌≡◌, ℕ, ◌<◌, ◌≤◌, List, [], ◌∷◌, Option, Some, None, Bool, true, false, cond, Result, Ok, Err, ◌&&◌, nat_le, length, drop, unwrap_or, refl, subst, lit≤, MatchResult, IfOk, arith}
 use Rattle.rpm_words.proofs.Vocabulary.{All, Argument, argument_in, argument_said, arguments, asked_by, AskParts, By, Command, cons_option, Exercise}
-use Rattle.rpm_words.proofs.Vocabulary.{exercise_in, exercise_said, fault_or, Files, filter_map, first_broken, Format, format_printed, Gives, IfSome, IsSound}
-use Rattle.rpm_words.proofs.Vocabulary.{last_or, Lists, meant, Mode, mode_of, NoMemory, number, Printed, printed_in, printed_said, Program, Query, Said, said}
-use Rattle.rpm_words.proofs.Vocabulary.{seen, Sets, Span, text_at, Token, within_exercise, WordsFault}
+use Rattle.rpm_words.proofs.Vocabulary.{exercise_in, exercise_said, fault_or, Files, filter_map, first_broken, Format, format_printed, Gives, IfSome, IsCommandSound}
+use Rattle.rpm_words.proofs.Vocabulary.{last_or, Lists, meant_parts, Mode, mode_of, NoMemory, number, Printed, printed_in, printed_said, Program, Query, Said, said_tokens}
+use Rattle.rpm_words.proofs.Vocabulary.{seen, Sets, Span, word_at, Token, within_exercise, WordsFault}
 use Rattle.std.proofs.lemmas.List.Elements.{All-nil, All-cons, All-head, All-tail}
 use Rattle.std.proofs.lemmas.Grind.{common_steps}
 use Rattle.rpm_words.specs.declared.ask.Mode.TheVariants as mode
@@ -62,20 +62,20 @@ mode_count others m n h k = let no : ⊥ = cc in absurd no
 exercise_sound : (words : List (List ℕ)) (command : Command) (tokens : List Token) → All (IsWithin words) tokens → (n : ℕ) →
     mode_of command (unwrap_or (last_or None (filter_map (exercise_in words) tokens)) 1) ≡ mode.Exercise n → IsCount n
 exercise_sound words command tokens h n e =
-    let all = told_all (IsWithin words) IsCount (exercise_in words) (λ token w. said_count (text_at words token.word) token.said) tokens h in
+    let all = told_all (IsWithin words) IsCount (exercise_in words) (λ token w. said_count (word_at words token.word) token.said) tokens h in
     let last = last_or None (filter_map (exercise_in words) tokens) in
     mode_count command (unwrap_or last 1) n e (or_one last (last_all IsCount None (filter_map (exercise_in words) tokens) tt all))
 
 -- ---- the place of a format
 
 abbrev LiesIn : List (List ℕ) → Span → Type 0
-LiesIn words span = (span.word < length words) × (span.from ≤ length (text_at words span.word))
+LiesIn words span = (span.word < length words) × (span.from ≤ length (word_at words span.word))
 
 abbrev PrintsFrom : List (List ℕ) → Printed → Type 0
 PrintsFrom words Files = Unit {0}
 PrintsFrom words (By span) = LiesIn words span
 
-said_printed : (words : List (List ℕ)) (word : ℕ) (said : Said) → word < length words → BeginsIn (text_at words word) said →
+said_printed : (words : List (List ℕ)) (word : ℕ) (said : Said) → word < length words → BeginsIn (word_at words word) said →
     IfSome (printed_said word said) (PrintsFrom words)
 said_printed words word (Sets Lists) h k = tt
 said_printed words word (Gives Format from) h k = (h, k)
@@ -94,7 +94,8 @@ format_sound words tokens h =
 
 -- ---- the command
 
-meant_sound : (words : List (List ℕ)) (tokens : List Token) → All (IsWithin words) tokens → IsSound words (meant (seen words tokens) (arguments tokens))
+meant_sound : (words : List (List ℕ)) (tokens : List Token) → All (IsWithin words) tokens
+    → IsCommandSound words (meant_parts (seen words tokens) (arguments tokens))
 unfolding seen
 meant_sound words tokens h = record {
   arguments = arguments_sound words tokens h;
@@ -106,16 +107,16 @@ meant_by : (o : Option WordsFault) (m a : AskParts) → fault_or o m ≡ Ok a �
 meant_by None m a h = cc
 meant_by (Some f) m a h = cc
 
-pub asked_sound : (program : Program) (words : List (List ℕ)) (a : AskParts) → asked_by program words ≡ Ok a → IsSound words a
+pub asked_sound : (program : Program) (words : List (List ℕ)) (a : AskParts) → asked_by program words ≡ Ok a → IsCommandSound words a
 unfolding asked_by
 asked_sound program words a h =
-    let tokens = said program words in
+    let tokens = said_tokens program words in
     let s = seen words tokens in
     let all = arguments tokens in
-    subst (IsSound words) (meant_by (first_broken words tokens s all) (meant s all) a h) (meant_sound words tokens (all_within program words))
+    subst (IsCommandSound words) (meant_by (first_broken words tokens s all) (meant_parts s all) a h) (meant_sound words tokens (all_within program words))
 
 -- what a reader answers by the definition
 pub read_sound : (program : Program) (words : List (List ℕ)) (r : Result AskParts WordsFault) →
-    MatchResult r (λ a. asked_by program words ≡ Ok a) (λ f. (f.kind ≡ NoMemory → ⊥) → asked_by program words ≡ Err f) → IfOk r (λ a. IsSound words a)
+    MatchResult r (λ a. asked_by program words ≡ Ok a) (λ f. (f.kind ≡ NoMemory → ⊥) → asked_by program words ≡ Err f) → IfOk r (λ a. IsCommandSound words a)
 read_sound program words (Ok a) h = asked_sound program words a h
 read_sound program words (Err f) h = tt

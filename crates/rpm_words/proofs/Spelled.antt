@@ -3,7 +3,7 @@ use Rattle.std.proofs.Common.{◌≡◌, ℕ, ◌<◌, List, Option, Some, None,
 use borrow.Author.Tests.{ltb-true}
 use Rattle.rpm_words.proofs.Vocabulary.{Awaits, before_first, bytes_eq, Cluster, Ends, has_equals, Inline, inline, is_cluster, is_equals, IsSpelled, lone}
 use Rattle.rpm_words.proofs.Vocabulary.{long_purpose, long_switch, Name, option_map_or, own_purpose, Plain, position_or_len, Program, Purpose, purpose_behind}
-use Rattle.rpm_words.proofs.Vocabulary.{Rest, spelled, Switch, takes_value, Unknown, Value, Whole}
+use Rattle.rpm_words.proofs.Vocabulary.{Rest, spelled_purpose, Switch, takes_value, Unknown, Value, Whole}
 
 by_test : (text : List ℕ) (b : Bool) (p q : Purpose) → IsSpelled text p → IsSpelled text q → IsSpelled text (cond b p q)
 by_test text true p q h k = h
@@ -18,7 +18,7 @@ by_sign : (text : List ℕ) (switch : Switch) (b : Bool) → has_equals text ≡
 by_sign text switch true h = inline_spelled text switch (ltb-true _ _ h)
 by_sign text switch false h = by_test text (takes_value switch) _ _ tt tt
 
-option_spelled : (text : List ℕ) (o : Option Switch) → IsSpelled text (option_map_or (spelled text) o Unknown)
+option_spelled : (text : List ℕ) (o : Option Switch) → IsSpelled text (option_map_or (spelled_purpose text) o Unknown)
 option_spelled text None = tt
 option_spelled text (Some switch) = by_sign text switch (has_equals text) refl
 

@@ -1,26 +1,26 @@
 -- A search through the spellings of options.
 use Rattle.std.proofs.Common.{◌≡◌, ℕ, ◌+◌, ◌≤◌, ◌<◌, List, [], ◌∷◌, length, get_or, drop, true, false, Bool, cond, nat_lt, Option, Some, None, IsSome, arith, refl, sym, ap, ◌∙◌}
-use Rattle.rpm_words.proofs.Vocabulary.{as_table, bytes_eq, list_all, Spelling, Switch, switch_in}
+use Rattle.rpm_words.proofs.Vocabulary.{as_spellings, bytes_eq, list_all, Spelling, Switch, switch_in}
 use Rattle.std.proofs.lemmas.Bool.{and_parts, ltb-true}
 use Rattle.std.proofs.lemmas.List.{at_drop_more, at_drop_all}
 use Rattle.std.proofs.lemmas.Slice.Eq.{bytes_eq-Decides}
 
-pub at_end : (rows : List Spelling) (text : List ℕ) (i : ℕ) → length rows ≤ i → switch_in (as_table (drop i rows)) text ≡ None
+pub at_end : (rows : List Spelling) (text : List ℕ) (i : ℕ) → length rows ≤ i → switch_in (as_spellings (drop i rows)) text ≡ None
 unfolding switch_in
-at_end rows text i le = at_drop_all (λ rs. switch_in (as_table rs) text) rows i le
+at_end rows text i le = at_drop_all (λ rs. switch_in (as_spellings rs) text) rows i le
 
 step : (rows : List Spelling) (text : List ℕ) (i : ℕ) (d : Spelling) → i < length rows
-    → switch_in (as_table (drop i rows)) text ≡ cond (bytes_eq text (get_or rows i d).0.now) (Some (get_or rows i d).1)
-    (switch_in (as_table (drop (i + 1) rows)) text)
+    → switch_in (as_spellings (drop i rows)) text ≡ cond (bytes_eq text (get_or rows i d).0.now) (Some (get_or rows i d).1)
+    (switch_in (as_spellings (drop (i + 1) rows)) text)
 unfolding switch_in
-step rows text i d lt = at_drop_more (λ rs. switch_in (as_table rs) text) rows i d lt
+step rows text i d lt = at_drop_more (λ rs. switch_in (as_spellings rs) text) rows i d lt
 
 pub found : (rows : List Spelling) (text : List ℕ) (i : ℕ) (d : Spelling) (r : Option Switch) → i < length rows
-    → true ≡ bytes_eq text (get_or rows i d).0.now → switch_in (as_table (drop i rows)) text ≡ r → Some (get_or rows i d).1 ≡ r
+    → true ≡ bytes_eq text (get_or rows i d).0.now → switch_in (as_spellings (drop i rows)) text ≡ r → Some (get_or rows i d).1 ≡ r
 found rows text i d r lt same e = sym (step rows text i d lt ∙ rw (← same) refl) ∙ e
 
 pub passed : (rows : List Spelling) (text : List ℕ) (i : ℕ) (d : Spelling) (r : Option Switch) → i < length rows
-    → false ≡ bytes_eq text (get_or rows i d).0.now → switch_in (as_table (drop i rows)) text ≡ r → switch_in (as_table (drop (i + 1) rows)) text ≡ r
+    → false ≡ bytes_eq text (get_or rows i d).0.now → switch_in (as_spellings (drop i rows)) text ≡ r → switch_in (as_spellings (drop (i + 1) rows)) text ≡ r
 passed rows text i d r lt other e = sym (step rows text i d lt ∙ rw (← other) refl) ∙ e
 
 -- a text that is one of short spellings is short

@@ -1,6 +1,6 @@
 -- The tokens of a command line, one more word at a time.
 use Rattle.std.proofs.Common.{◌≡◌, ℕ, ◌+◌, ◌≤◌, List, [], ◌∷◌, ◌++◌, Some, length, drop, zero, suc, ap, sym, ◌∙◌, arith, add-one, append_assoc, append-nil}
-use Rattle.rpm_words.proofs.Vocabulary.{Name, Program, Purpose, purpose_behind, said, said_behind, says, slice_get, Token}
+use Rattle.rpm_words.proofs.Vocabulary.{Name, Program, Purpose, purpose_behind, said_tokens, said_behind, says, slice_get, Token}
 use Rattle.std.proofs.lemmas.Grind.{common_steps}
 
 pub drop_cut : {X : Type 0} (xs : List X) (i : ℕ) (x : X) → slice_get xs i ≡ Some x → drop i xs ≡ x ∷ drop (i + 1) xs
@@ -21,8 +21,8 @@ unfolding said_behind
 said_end program previous i words h = let e : drop i words ≡ [] = grind (arith, common_steps) in rw e
 
 pub tokens_begin : (program : Program) (words : List (List ℕ)) (tokens : List Token) → tokens ≡ [] →
-    tokens ++ said_behind program Name 1 (drop 1 words) ≡ said program words
-unfolding said
+    tokens ++ said_behind program Name 1 (drop 1 words) ≡ said_tokens program words
+unfolding said_tokens
 tokens_begin program words tokens h = rw h
 
 pub tokens_step : (program : Program) (previous purpose : Purpose) (i : ℕ) (words : List (List ℕ)) (text : List ℕ) (tokens more all : List Token) →

@@ -1,25 +1,25 @@
 -- The words of proofs, from one place.
 pub use Rattle.rpm_version.specs.Capability.{capability}
-pub use Rattle.rpm_words.specs.Ask.{argument_in, argument_said, AskParts, fault_or, format_printed, HasNumbers, IsFit, IsSound, meant, mode_of}
+pub use Rattle.rpm_words.specs.Ask.{argument_in, argument_said, AskParts, fault_or, format_printed, HasNumbers, IsFit, IsCommandSound, meant_parts, mode_of}
 unfoldable pub use Rattle.rpm_words.specs.Ask.{arguments, asked_by}
 pub use Rattle.rpm_words.specs.Broken.{argument_fault, is_awaiting, is_bad_number, is_misplaced, is_refused, lacks_option, misplaced_in, misplaced_said}
 pub use Rattle.rpm_words.specs.Broken.{no_mode, no_value, token_fault, too_few, too_many}
-unfoldable pub use Rattle.rpm_words.specs.Broken.{bad_argument, early_fault, first_broken, misplaced}
-pub use Rattle.rpm_words.specs.Command.{chosen_of, command_of, head, is_other}
+unfoldable pub use Rattle.rpm_words.specs.Broken.{bad_argument, early_word_fault, first_broken, first_misplaced}
+pub use Rattle.rpm_words.specs.Command.{chosen_of, command_of, command_word, is_other}
 pub use Rattle.rpm_words.specs.Fault.{earliest, fault, first_told, is_before}
 pub use Rattle.rpm_words.specs.Number.{within_exercise}
 unfoldable pub use Rattle.rpm_words.specs.Number.{number}
 pub use Rattle.rpm_words.specs.Place.{folder_in, own_place}
 unfoldable pub use Rattle.rpm_words.specs.Place.{folder}
-pub use Rattle.rpm_words.specs.Purpose.{has_equals, inline, is_cluster, is_equals, lone, spelled, takes_value}
+pub use Rattle.rpm_words.specs.Purpose.{has_equals, inline, is_cluster, is_equals, lone, spelled_purpose, takes_value}
 unfoldable pub use Rattle.rpm_words.specs.Purpose.{long_purpose, own_purpose, purpose_behind}
 pub use Rattle.rpm_words.specs.Seen.{after_in, exercise_in, exercise_said, is_nofiles, is_noindex, printed_in, printed_said}
 unfoldable pub use Rattle.rpm_words.specs.Seen.{seen}
 unfoldable pub use Rattle.rpm_words.specs.Switch.{long_switch, rpm_switch, rpmdb_switch, short_switch}
-pub use Rattle.rpm_words.specs.Takes.{checked, expected, fewest, most, takes}
+pub use Rattle.rpm_words.specs.Takes.{checked_arguments, expected_form, fewest, most, takes}
 pub use Rattle.rpm_words.specs.Token.{letters, option_at, says, token_at}
-unfoldable pub use Rattle.rpm_words.specs.Token.{said, said_behind}
-pub use Rattle.rpm_words.specs.Words.{text_at}
+unfoldable pub use Rattle.rpm_words.specs.Token.{said_tokens, said_behind}
+pub use Rattle.rpm_words.specs.Words.{word_at}
 pub use Rattle.rpm_words.specs.declared.fault.WordsFault.{WordsFault}
 pub use Rattle.rpm_words.specs.declared.fault.WordsKind.{WordsKind}
 pub use Rattle.rpm_words.specs.declared.fault.WordsKind.TheVariants.{ExtraArgument, Misplaced, MissingArgument, NoMemory, NoMode}
@@ -43,9 +43,9 @@ pub use Rattle.rpm_words.specs.declared.token.Said.TheVariants.{Argument, Gives,
 pub use Rattle.rpm_words.specs.declared.token.Token.{Token}
 pub use Rattle.rpm_words.specs.declared.words.Span.{Span}
 pub use Rattle.rpm_words.specs.inner.Folder.{folder_behind, IsSpelled}
-pub use Rattle.rpm_words.specs.inner.Given.{fit_asked}
-pub use Rattle.rpm_words.specs.inner.Numbered.{numbers_asked}
-pub use Rattle.rpm_words.specs.inner.Spellings.{as_table}
+pub use Rattle.rpm_words.specs.laws.Given.{fit_asked}
+pub use Rattle.rpm_words.proofs.Numbered.{numbers_asked}
+pub use Rattle.rpm_words.specs.inner.Spellings.{as_spellings}
 unfoldable pub use Rattle.rpm_words.specs.inner.Spellings.{switch_in}
 pub use Rattle.rpm_words.specs.inner.Steps.{seen_with}
 pub use Rattle.std.specs.Char.{is_ascii_digit}

@@ -1,10 +1,13 @@
 -- The command that a command line asks for.
-use Rattle.std.specs.Prelude.{◌≡◌, ◌<◌, ◌≤◌, ℕ, List, Option, Some, None, Result, Ok, Err, Bool, true, false, IsSome, length, take, unwrap_or}
+use Rattle.std.specs.Prelude.{◌≡◌, ◌<◌, ◌≤◌, ℕ, List, Option, Some, None, Result, Ok, Err, Bool, true, false, IsSome}
+use Rattle.std.specs.Prelude.{length, take, unwrap_or}
 use Rattle.std.specs.Option.{option_map_or, IfSome}
 use Rattle.std.specs.List.{filter_map, All, AllByRecursion}
 use Rattle.rpm_words.specs.declared.switch.Program.{Program}
 use Rattle.rpm_words.specs.declared.switch.Command.{Command}
-use Rattle.rpm_words.specs.declared.switch.Command.TheVariants.{Query, Addpkg, Replacepkg, Erasepkg, Verify, Initdb, Rebuilddb, Verifydb, Exportdb, Importdb, Exercise, Order, Checkfiles, Help, Version}
+use Rattle.rpm_words.specs.declared.switch.Command.TheVariants.{Query, Addpkg, Replacepkg, Erasepkg, Verify, Initdb}
+use Rattle.rpm_words.specs.declared.switch.Command.TheVariants.{Rebuilddb, Verifydb, Exportdb, Importdb, Exercise}
+use Rattle.rpm_words.specs.declared.switch.Command.TheVariants.{Order, Checkfiles, Help, Version}
 use Rattle.rpm_words.specs.declared.switch.Chosen.{Chosen}
 use Rattle.rpm_words.specs.declared.switch.Chosen.TheVariants.{Label}
 use Rattle.rpm_words.specs.declared.token.Token.{Token}
@@ -18,13 +21,13 @@ use Rattle.rpm_words.specs.declared.fault.WordsFault.{WordsFault}
 use Rattle.rpm_words.specs.declared.fault.WordsKind.TheVariants.{NoMode}
 use Rattle.rpm_words.specs.declared.ask.Mode.{Mode}
 use Rattle.rpm_words.specs.declared.ask.Mode.TheVariants as mode
-use Rattle.rpm_words.specs.Words.{text_at}
+use Rattle.rpm_words.specs.Words.{word_at}
 use Rattle.rpm_words.specs.Number.{number}
 use Rattle.rpm_words.specs.Fault.{fault}
-use Rattle.rpm_words.specs.Token.{said}
+use Rattle.rpm_words.specs.Token.{said_tokens}
 use Rattle.rpm_words.specs.Place.{program_of}
 use Rattle.rpm_words.specs.Seen.{seen}
-use Rattle.rpm_words.specs.Takes.{query_takes, expected}
+use Rattle.rpm_words.specs.Takes.{query_takes, expected_form}
 use Rattle.rpm_words.specs.Broken.{argument_fault, first_broken}
 
 -- what a command line asks for
@@ -79,8 +82,8 @@ format_printed (Some (By span)) = Some span
 format_printed others = None
 
 -- the parts put together
-abbrev pub asks : Mode → Chosen → ℕ → Bool → Option Printed → List ℕ → AskParts
-asks mode chosen after noindex printed arguments = record {
+abbrev pub ask_parts : Mode → Chosen → ℕ → Bool → Option Printed → List ℕ → AskParts
+ask_parts mode chosen after noindex printed arguments = record {
   mode = mode;
   chosen = chosen;
   after = after;
@@ -91,9 +94,9 @@ asks mode chosen after noindex printed arguments = record {
 }
 
 -- what is meant where no rule is broken; an exercise has a number then
-abbrev pub meant : Seen → List ℕ → AskParts
-meant seen arguments =
-    asks (mode_of (unwrap_or seen.command Query) (unwrap_or seen.exercise 1)) (unwrap_or seen.chosen Label)
+abbrev pub meant_parts : Seen → List ℕ → AskParts
+meant_parts seen arguments =
+    ask_parts (mode_of (unwrap_or seen.command Query) (unwrap_or seen.exercise 1)) (unwrap_or seen.chosen Label)
     (unwrap_or seen.after 0) seen.noindex seen.printed arguments
 
 -- the first fault, or what is asked for where there is none
@@ -103,32 +106,35 @@ fault_or None a = Ok a
 
 -- what words ask for that were read so
 abbrev pub asked_with : List (List ℕ) → List Token → Seen → List ℕ → Result AskParts WordsFault
-asked_with words tokens seen arguments = fault_or (first_broken words tokens seen arguments) (meant seen arguments)
+asked_with words tokens seen arguments =
+    fault_or (first_broken words tokens seen arguments) (meant_parts seen arguments)
 
 -- what words ask a program for
 unfoldable pub asked_by : Program → List (List ℕ) → Result AskParts WordsFault
 asked_by program words =
-    asked_with words (said program words) (seen words (said program words)) (arguments (said program words))
+    asked_with words (said_tokens program words) (seen words (said_tokens program words))
+    (arguments (said_tokens program words))
 
 -- the command, or the first rule that is broken
 unfoldable pub ask : List (List ℕ) → Result AskParts WordsFault
 ask words = option_map_or (λ program. asked_by program words) (program_of words) (Err (fault NoMode 0))
 
 -- what is so of each command that words ask for
-pub record IsSound (words : List (List ℕ)) (a : AskParts) : Type 0 where
+pub record IsCommandSound (words : List (List ℕ)) (a : AskParts) : Type 0 where
   pub arguments : All (λ i. i < length words) a.arguments
   pub exercise : (n : ℕ) → a.mode ≡ mode.Exercise n → (1 ≤ n) × (n ≤ 100000)
-  pub format : IfSome a.format (λ span. (span.word < length words) × (span.from ≤ length (text_at words span.word)))
+  pub format : IfSome a.format (λ span. (span.word < length words) × (span.from ≤ length (word_at words span.word)))
 
 -- an argument of a query is what its selection wants
 abbrev pub IsFit : List (List ℕ) → Chosen → ℕ → Type 0
-IsFit words chosen word = argument_fault words (expected (query_takes chosen)) word ≡ None
+IsFit words chosen word = argument_fault words (expected_form (query_takes chosen)) word ≡ None
 
 -- an argument is a package number
 abbrev pub IsNumber : List (List ℕ) → ℕ → Type 0
-IsNumber words word = IsSome (number (text_at words word))
+IsNumber words word = IsSome (number (word_at words word))
 
 -- the package numbers among the arguments: each where packages are erased, and the first of two where one is replaced
 pub record HasNumbers (words : List (List ℕ)) (a : AskParts) : Type 0 where
   pub erased : a.mode ≡ mode.Erasepkg → AllByRecursion (IsNumber words) a.arguments
-  pub replaced : a.mode ≡ mode.Replacepkg → (length a.arguments ≡ 2) × AllByRecursion (IsNumber words) (take 1 a.arguments)
+  pub replaced : a.mode ≡ mode.Replacepkg → (length a.arguments ≡ 2)
+      × AllByRecursion (IsNumber words) (take 1 a.arguments)

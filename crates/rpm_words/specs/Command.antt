@@ -2,9 +2,13 @@
 use Rattle.std.specs.Prelude.{ℕ, List, Option, Some, None, Bool, false, not, ◌||◌, ◌==◌}
 use Rattle.std.specs.List.{slice_get}
 use Rattle.rpm_words.specs.declared.switch.Command.{Command}
-use Rattle.rpm_words.specs.declared.switch.Command.TheVariants.{Query, Addpkg, Replacepkg, Erasepkg, Verify, Initdb, Rebuilddb, Verifydb, Exportdb, Importdb, Exercise, Order, Checkfiles, Help, Version}
+use Rattle.rpm_words.specs.declared.switch.Command.TheVariants.{Query, Addpkg, Replacepkg, Erasepkg, Verify, Initdb}
+use Rattle.rpm_words.specs.declared.switch.Command.TheVariants.{Rebuilddb, Verifydb, Exportdb, Importdb, Exercise}
+use Rattle.rpm_words.specs.declared.switch.Command.TheVariants.{Order, Checkfiles, Help, Version}
 use Rattle.rpm_words.specs.declared.switch.Chosen.{Chosen}
-use Rattle.rpm_words.specs.declared.switch.Chosen.TheVariants.{Label, All, Path, Group, Package, Provides, Requires, Conflicts, Obsoletes, Trigger, Number, Directory, Tid, Recommends}
+use Rattle.rpm_words.specs.declared.switch.Chosen.TheVariants.{Label, All, Path, Group, Package, Provides, Requires}
+use Rattle.rpm_words.specs.declared.switch.Chosen.TheVariants.{Conflicts, Obsoletes, Trigger, Number, Directory, Tid}
+use Rattle.rpm_words.specs.declared.switch.Chosen.TheVariants.{Recommends}
 use Rattle.rpm_words.specs.declared.switch.Switch.TheVariants.{Mode, Choose}
 use Rattle.rpm_words.specs.declared.token.Token.{Token}
 use Rattle.rpm_words.specs.declared.token.Said.{Said}
@@ -29,8 +33,8 @@ abbrev pub chosen_of : Token → Option Chosen
 chosen_of token = chosen_in token.said
 
 -- the first element, if there is one
-abbrev pub head : {X : Type 0} → List X → Option X
-head xs = slice_get xs 0
+abbrev pub command_word : {X : Type 0} → List X → Option X
+command_word xs = slice_get xs 0
 
 -- a number for each command, to compare them
 abbrev pub command_number : Command → ℕ
@@ -76,11 +80,11 @@ abbrev pub is_same_chosen : Chosen → Chosen → Bool
 is_same_chosen a b = chosen_number a == chosen_number b
 
 -- two values differ when both are there and they aren't the same
-abbrev pub differs : {X : Type 0} → (X → X → Bool) → Option X → Option X → Bool
-differs is_same (Some a) (Some b) = not (is_same a b)
-differs is_same a b = false
+abbrev pub values_differ : {X : Type 0} → (X → X → Bool) → Option X → Option X → Bool
+values_differ is_same (Some a) (Some b) = not (is_same a b)
+values_differ is_same a b = false
 
 -- the token gives another mode, or another selection
 abbrev pub is_other : Option Command → Option Chosen → Token → Bool
 is_other command chosen token =
-    differs is_same_command (command_of token) command || differs is_same_chosen (chosen_of token) chosen
+    values_differ is_same_command (command_of token) command || values_differ is_same_chosen (chosen_of token) chosen

@@ -10,14 +10,14 @@ abbrev pub fault : WordsKind → ℕ → WordsFault
 fault kind word = record { kind = kind; word = word }
 
 -- an unknown option comes first among the faults of one word, then a second mode
-abbrev pub rank : WordsKind → ℕ
-rank UnknownOption = 0
-rank TwoModes = 1
-rank others = 2
+abbrev pub fault_rank : WordsKind → ℕ
+fault_rank UnknownOption = 0
+fault_rank TwoModes = 1
+fault_rank others = 2
 
 -- the fault that is told of two: of the earlier word, and of one word by its kind
 abbrev pub is_before : WordsFault → WordsFault → Bool
-is_before f g = nat_lt f.word g.word || (f.word == g.word && nat_lt (rank f.kind) (rank g.kind))
+is_before f g = nat_lt f.word g.word || (f.word == g.word && nat_lt (fault_rank f.kind) (fault_rank g.kind))
 
 -- the fault of the least word, and of the faults of that word the one that comes first
 abbrev pub earliest : List WordsFault → Option WordsFault

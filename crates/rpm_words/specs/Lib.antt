@@ -12,3 +12,4 @@ pub mod Takes
 pub mod Token
 pub mod Words
 pub mod inner
+pub mod laws

@@ -9,8 +9,8 @@ use Rattle.rpm_words.specs.declared.switch.Switch.TheVariants.{Folder}
 use Rattle.rpm_words.specs.declared.token.Token.{Token}
 use Rattle.rpm_words.specs.declared.token.Said.{Said}
 use Rattle.rpm_words.specs.declared.token.Said.TheVariants.{Sets, Gives}
-use Rattle.rpm_words.specs.Words.{text_at}
-use Rattle.rpm_words.specs.Token.{said}
+use Rattle.rpm_words.specs.Words.{word_at}
+use Rattle.rpm_words.specs.Token.{said_tokens}
 
 -- the program that a word names
 abbrev pub program_named : List ℕ → Option Program
@@ -35,12 +35,12 @@ folder_said text others = None
 
 -- the folder that a token gives
 abbrev pub folder_in : List (List ℕ) → Token → Option (List ℕ)
-folder_in words token = folder_said (text_at words token.word) token.said
+folder_in words token = folder_said (word_at words token.word) token.said
 
 -- the folder that is named last
 unfoldable pub folder : Program → List (List ℕ) → List ℕ
 folder program words =
-    unwrap_or (last_or None (filter_map (folder_in words) (said program words))) own_place
+    unwrap_or (last_or None (filter_map (folder_in words) (said_tokens program words))) own_place
 
 -- the folder of the database
 unfoldable pub place : List (List ℕ) → List ℕ

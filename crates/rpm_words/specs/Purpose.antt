@@ -1,5 +1,6 @@
 -- What each word of a command line is there for.
-use Rattle.std.specs.Prelude.{ℕ, List, Bool, true, false, not, ◌||◌, ◌==◌, ◌+◌, nat_lt, if◌then◌else◌, length, take, drop, codes}
+use Rattle.std.specs.Prelude.{ℕ, List, Bool, true, false, not, ◌||◌, ◌==◌, ◌+◌, nat_lt, if◌then◌else◌, length, take}
+use Rattle.std.specs.Prelude.{drop, codes}
 use Rattle.std.specs.Option.{option_map_or, is_some}
 use Rattle.std.specs.List.{list_all, before_first, position_or_len}
 use Rattle.std.specs.Str.{bytes_eq}
@@ -9,7 +10,8 @@ use Rattle.rpm_words.specs.declared.switch.Command.TheVariants.{Exercise}
 use Rattle.rpm_words.specs.declared.switch.Switch.{Switch}
 use Rattle.rpm_words.specs.declared.switch.Switch.TheVariants.{Mode, Format, After, Folder}
 use Rattle.rpm_words.specs.declared.purpose.Purpose.{Purpose}
-use Rattle.rpm_words.specs.declared.purpose.Purpose.TheVariants.{Unknown, Cluster, Whole, Inline, Awaits, Value, Ends, Plain, Rest}
+use Rattle.rpm_words.specs.declared.purpose.Purpose.TheVariants.{Unknown, Cluster, Whole, Inline, Awaits, Value, Ends}
+use Rattle.rpm_words.specs.declared.purpose.Purpose.TheVariants.{Plain, Rest}
 use Rattle.rpm_words.specs.Switch.{long_switch, short_switch}
 
 -- whether the option has a value
@@ -37,14 +39,14 @@ abbrev pub lone : Switch → Purpose
 lone switch = if takes_value switch then Awaits switch else Whole switch
 
 -- what a word is for that spells an option
-abbrev pub spelled : List ℕ → Switch → Purpose
-spelled text switch =
+abbrev pub spelled_purpose : List ℕ → Switch → Purpose
+spelled_purpose text switch =
     if has_equals text then inline (position_or_len is_equals text) switch else lone switch
 
 -- a word that begins with two dashes
 unfoldable pub long_purpose : Program → List ℕ → Purpose
 long_purpose program text =
-    option_map_or (spelled text) (long_switch program (before_first is_equals text)) Unknown
+    option_map_or (spelled_purpose text) (long_switch program (before_first is_equals text)) Unknown
 
 -- after the first byte stand short options alone
 unfoldable pub is_cluster : Program → List ℕ → Bool

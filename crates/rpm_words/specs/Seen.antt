@@ -9,9 +9,9 @@ use Rattle.rpm_words.specs.declared.token.Said.TheVariants.{Sets, Gives}
 use Rattle.rpm_words.specs.declared.seen.Printed.{Printed}
 use Rattle.rpm_words.specs.declared.seen.Printed.TheVariants.{Files, By}
 use Rattle.rpm_words.specs.declared.seen.Seen.{Seen}
-use Rattle.rpm_words.specs.Words.{text_at}
+use Rattle.rpm_words.specs.Words.{word_at}
 use Rattle.rpm_words.specs.Number.{number, exercise_number}
-use Rattle.rpm_words.specs.Command.{head, command_of, chosen_of}
+use Rattle.rpm_words.specs.Command.{command_word, command_of, chosen_of}
 
 -- how is to be printed, if an option says so
 abbrev pub printed_said : ℕ → Said → Option Printed
@@ -30,7 +30,7 @@ after_said text others = None
 
 -- the number of `--after`
 abbrev pub after_in : List (List ℕ) → Token → Option ℕ
-after_in words token = after_said (text_at words token.word) token.said
+after_in words token = after_said (word_at words token.word) token.said
 
 -- the number of an exercise
 abbrev pub exercise_said : List ℕ → Said → Option ℕ
@@ -39,7 +39,7 @@ exercise_said text others = None
 
 -- the number of `--exercise`
 abbrev pub exercise_in : List (List ℕ) → Token → Option ℕ
-exercise_in words token = exercise_said (text_at words token.word) token.said
+exercise_in words token = exercise_said (word_at words token.word) token.said
 
 -- the option that no index is used
 abbrev pub noindex_said : Said → Bool
@@ -62,8 +62,8 @@ is_nofiles token = nofiles_said token.said
 -- the first mode and the first selection, the last format and the last numbers
 unfoldable pub seen : List (List ℕ) → List Token → Seen
 seen words tokens = record {
-  command = head (filter_map command_of tokens);
-  chosen = head (filter_map chosen_of tokens);
+  command = command_word (filter_map command_of tokens);
+  chosen = command_word (filter_map chosen_of tokens);
   printed = last_or None (filter_map printed_in tokens);
   after = last_or None (filter_map (after_in words) tokens);
   exercise = last_or None (filter_map (exercise_in words) tokens);

@@ -3,10 +3,14 @@ use Rattle.std.specs.Prelude.{ℕ, List, Option, Some, None, ◌==◌, if◌then
 use Rattle.std.specs.Str.{bytes_eq}
 use Rattle.rpm_words.specs.declared.switch.Program.{Program}
 use Rattle.rpm_words.specs.declared.switch.Program.TheVariants.{Rpm, Rpmdb}
-use Rattle.rpm_words.specs.declared.switch.Command.TheVariants.{Query, Addpkg, Replacepkg, Erasepkg, Verify, Initdb, Rebuilddb, Verifydb, Exportdb, Importdb, Exercise, Order, Checkfiles, Help, Version}
-use Rattle.rpm_words.specs.declared.switch.Chosen.TheVariants.{All, Path, Group, Package, Provides, Requires, Conflicts, Obsoletes, Trigger, Number, Directory, Tid, Recommends}
+use Rattle.rpm_words.specs.declared.switch.Command.TheVariants.{Query, Addpkg, Replacepkg, Erasepkg, Verify, Initdb}
+use Rattle.rpm_words.specs.declared.switch.Command.TheVariants.{Rebuilddb, Verifydb, Exportdb, Importdb, Exercise}
+use Rattle.rpm_words.specs.declared.switch.Command.TheVariants.{Order, Checkfiles, Help, Version}
+use Rattle.rpm_words.specs.declared.switch.Chosen.TheVariants.{All, Path, Group, Package, Provides, Requires, Conflicts}
+use Rattle.rpm_words.specs.declared.switch.Chosen.TheVariants.{Obsoletes, Trigger, Number, Directory, Tid, Recommends}
 use Rattle.rpm_words.specs.declared.switch.Switch.{Switch}
-use Rattle.rpm_words.specs.declared.switch.Switch.TheVariants.{Mode, Choose, Lists, Format, After, Noindex, Nofiles, Folder}
+use Rattle.rpm_words.specs.declared.switch.Switch.TheVariants.{Mode, Choose, Lists, Format, After, Noindex, Nofiles}
+use Rattle.rpm_words.specs.declared.switch.Switch.TheVariants.{Folder}
 
 -- the long options of `rpm`
 unfoldable pub rpm_switch : List ℕ → Option Switch

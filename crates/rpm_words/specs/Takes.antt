@@ -59,15 +59,15 @@ most (Several kind) = None
 most NumberAndText = Some 2
 
 -- what they have to be
-abbrev pub expected : ArgumentRule → Expected
-expected Nothing = Text
-expected (Any kind) = kind
-expected (Several kind) = kind
-expected NumberAndText = Number
+abbrev pub expected_form : ArgumentRule → Expected
+expected_form Nothing = Text
+expected_form (Any kind) = kind
+expected_form (Several kind) = kind
+expected_form NumberAndText = Number
 
 -- a rule checks these of the arguments: the first alone where it wants a number and a text
-abbrev pub checked : ArgumentRule → List ℕ → List ℕ
-checked Nothing arguments = arguments
-checked (Any kind) arguments = arguments
-checked (Several kind) arguments = arguments
-checked NumberAndText arguments = take 1 arguments
+abbrev pub checked_arguments : ArgumentRule → List ℕ → List ℕ
+checked_arguments Nothing arguments = arguments
+checked_arguments (Any kind) arguments = arguments
+checked_arguments (Several kind) arguments = arguments
+checked_arguments NumberAndText arguments = take 1 arguments

@@ -5,7 +5,8 @@ use Rattle.std.specs.List.{filter_map}
 use Rattle.rpm_words.specs.declared.switch.Program.{Program}
 use Rattle.rpm_words.specs.declared.switch.Switch.{Switch}
 use Rattle.rpm_words.specs.declared.purpose.Purpose.{Purpose}
-use Rattle.rpm_words.specs.declared.purpose.Purpose.TheVariants.{Name, Unknown, Cluster, Whole, Inline, Awaits, Value, Ends, Plain, Rest}
+use Rattle.rpm_words.specs.declared.purpose.Purpose.TheVariants.{Name, Unknown, Cluster, Whole, Inline, Awaits, Value}
+use Rattle.rpm_words.specs.declared.purpose.Purpose.TheVariants.{Ends, Plain, Rest}
 use Rattle.rpm_words.specs.declared.token.Token.{Token}
 use Rattle.rpm_words.specs.declared.token.Said.{Said}
 use Rattle.rpm_words.specs.declared.token.Said.TheVariants.{Refused, Sets, Gives, Argument}
@@ -45,5 +46,5 @@ said_behind program previous i (text ∷ rest) =
     ++ said_behind program (purpose_behind program previous text) (i + 1) rest
 
 -- what the words after the program's name say
-unfoldable pub said : Program → List (List ℕ) → List Token
-said program words = said_behind program Name 1 (drop 1 words)
+unfoldable pub said_tokens : Program → List (List ℕ) → List Token
+said_tokens program words = said_behind program Name 1 (drop 1 words)

@@ -1,7 +1,7 @@
 //! The command that a command line asks for.
 
 ghost use Rattle.std.specs.Prelude.{◌≡◌, ◌≢◌, ℕ, ◌<◌, ◌^◌, length, slice_get, Some, Ok, Err, IfOk, MatchResult, MatchOption, unwrap_or};
-ghost use Rattle.rpm_words.specs.Prelude.{AllByRecursion, argument_in, arguments, ask, asked_by, AskParts, asks, fault, HasNumbers, IsFit, IsSound, mode_of, NoMemory, program_of};
+ghost use Rattle.rpm_words.specs.Prelude.{AllByRecursion, argument_in, arguments, ask, asked_by, AskParts, ask_parts, fault, HasNumbers, IsFit, IsCommandSound, mode_of, NoMemory, program_of};
 
 use crate::broken::first_broken;
 use crate::fault::{WordsFault, WordsKind};
@@ -62,7 +62,7 @@ pub struct Ask {
 impl Model for Ask {
     ghost Value = { AskParts };
 
-    ghost view = { λ s. asks s.mode s.chosen s.after s.noindex s.printed s.arguments.items };
+    ghost view = { λ s. ask_parts s.mode s.chosen s.after s.noindex s.printed s.arguments.items };
 
     ghost invariant = { λ s. length s.arguments.items < 2 ^ 32 };
 }
@@ -245,7 +245,7 @@ fn read_options(alloc: Global, program: Program, words: &Words) -> Result<Ask, W
 #[tactic(auto, unfolding(crate::specs::Ask::ask))]
 pub fn read(alloc: Global, words: &Words) -> Result<Ask, WordsFault>
     ensures command { MatchResult result (λ a. ask words.now ≡ Ok a) (λ f. f.kind ≢ NoMemory → ask words.now ≡ Err f) }
-    ensures sound { IfOk result (λ a. IsSound words.now a) }
+    ensures sound { IfOk result (λ a. IsCommandSound words.now a) }
     ensures numbers { IfOk result (λ a. HasNumbers words.now a) }
     ensures fits { IfOk result (λ a. a.mode ≡ Mode.Query → AllByRecursion (IsFit words.now a.chosen) a.arguments) }
     ensures memory { MatchResult result (λ a. Unit {0}) (λ f. f.kind ≡ NoMemory → f.word ≡ 0) }

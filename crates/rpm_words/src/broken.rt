@@ -1,7 +1,7 @@
 //! The first rule that a command line breaks.
 
 ghost use Rattle.std.specs.Prelude.{◌≡◌};
-ghost use Rattle.rpm_words.specs.Prelude.{argument_fault, bad_argument, early_fault, first_broken, is_awaiting, is_bad_number, is_misplaced, lacks_option, misplaced, misplaced_in, no_mode, no_value, token_fault, too_few, too_many};
+ghost use Rattle.rpm_words.specs.Prelude.{argument_fault, bad_argument, early_word_fault, first_broken, is_awaiting, is_bad_number, is_misplaced, lacks_option, first_misplaced, misplaced_in, no_mode, no_value, token_fault, too_few, too_many};
 
 use crate::fault::{WordsFault, WordsKind, earlier};
 use crate::number::{exercise_number, number_in, number_of};
@@ -86,14 +86,14 @@ impl Switch {
 }
 
 /// The fault of the least token that is at fault by itself.
-#[tactic(auto, unfolding(crate::specs::Broken::early_fault))]
+#[tactic(auto, unfolding(crate::specs::Broken::early_word_fault))]
 fn early_fault(
     words: &Words,
     command: Option<Command>,
     chosen: Option<Chosen>,
     tokens: &[Token],
 ) -> Option<WordsFault>
-    ensures { result ≡ early_fault words.now command chosen tokens.now }
+    ensures { result ≡ early_word_fault words.now command chosen tokens.now }
 {
     let mut first = None;
     for token in tokens {
@@ -103,9 +103,9 @@ fn early_fault(
 }
 
 /// The first option that may not stand in a mode.
-#[tactic(auto, unfolding(crate::specs::Broken::misplaced))]
+#[tactic(auto, unfolding(crate::specs::Broken::first_misplaced))]
 fn misplaced(command: Command, tokens: &[Token]) -> Option<WordsFault>
-    ensures { result ≡ misplaced command tokens.now }
+    ensures { result ≡ first_misplaced command tokens.now }
 {
     for token in tokens {
         if let Some(fault) = token.misplaced(command) {

@@ -1,7 +1,7 @@
 //! The rules that a command line can break.
 
 ghost use Rattle.std.specs.Prelude.{◌≡◌};
-ghost use Rattle.rpm_words.specs.Prelude.{earlier, fault, is_before, rank};
+ghost use Rattle.rpm_words.specs.Prelude.{earlier, fault, is_before, fault_rank};
 
 /// The rule that is broken.
 #[derive(Debug, Clone, Copy, PartialEq, Eq)]
@@ -43,7 +43,7 @@ impl WordsKind {
 
     /// Which of the faults of one word is told.
     fn rank(self) -> u8
-        ensures { result ≡ rank self }
+        ensures { result ≡ fault_rank self }
     {
         match self {
             WordsKind::UnknownOption => 0,

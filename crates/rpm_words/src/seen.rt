@@ -1,7 +1,7 @@
 //! What the options of a command line come to.
 
 ghost use Rattle.std.specs.Prelude.{◌≡◌, None, drop};
-ghost use Rattle.rpm_words.specs.Prelude.{after_in, exercise_in, is_nofiles, is_noindex, printed_in, seen, seen_with, text_at};
+ghost use Rattle.rpm_words.specs.Prelude.{after_in, exercise_in, is_nofiles, is_noindex, printed_in, seen, seen_with, word_at};
 
 use crate::number::{exercise_number, number_in};
 use crate::switch::{Chosen, Command, Switch};
@@ -39,7 +39,7 @@ pub(crate) struct Seen {
 impl Token {
     /// The bytes of the token's word from a place on.
     pub(crate) fn bytes_from<'a>(&self, words: &'a Words, from: u32) -> &'a [u8]
-        ensures { result.now ≡ drop from (text_at words.now self.now.word) }
+        ensures { result.now ≡ drop from (word_at words.now self.now.word) }
     {
         words.bytes_from(Span {
             word: self.word,

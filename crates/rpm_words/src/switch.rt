@@ -1,7 +1,7 @@
 //! The options, and how each is spelled.
 
 ghost use Rattle.std.specs.Prelude.{◌≡◌, ◌≤◌, IsSome, length};
-ghost use Rattle.rpm_words.specs.Prelude.{as_table, bytes_eq, long_switch, short_switch, switch_in};
+ghost use Rattle.rpm_words.specs.Prelude.{as_spellings, bytes_eq, long_switch, short_switch, switch_in};
 
 /// The program that a command line calls.
 #[derive(Clone, Copy, PartialEq, Eq)]
@@ -133,7 +133,7 @@ fn is_spelled(spelling: &Spelling, text: &str) -> bool
 
 /// The option of the first spelling that a text is.
 fn switch_in(spellings: &[Spelling], text: &str) -> Option<Switch>
-    ensures { result ≡ switch_in (as_table spellings.now) text.now }
+    ensures { result ≡ switch_in (as_spellings spellings.now) text.now }
 {
     for spelling in spellings {
         if is_spelled(spelling, text) {

@@ -1,7 +1,7 @@
 //! How many arguments a command takes, and of which kind.
 
 ghost use Rattle.std.specs.Prelude.{◌≡◌};
-ghost use Rattle.rpm_words.specs.Prelude.{checked, expected, fewest, most, query_takes, takes};
+ghost use Rattle.rpm_words.specs.Prelude.{checked_arguments, expected_form, fewest, most, query_takes, takes};
 
 use crate::switch::{Chosen, Command};
 
@@ -99,7 +99,7 @@ impl ArgumentRule {
 
     /// What those of the arguments have to be that are checked.
     pub(crate) fn expected(self) -> Expected
-        ensures { result ≡ expected self }
+        ensures { result ≡ expected_form self }
     {
         match self {
             ArgumentRule::Nothing => Expected::Text,
@@ -110,7 +110,7 @@ impl ArgumentRule {
 
     /// Those of the arguments that are checked.
     pub(crate) fn checked(self, arguments: &[u32]) -> &[u32]
-        ensures { result.now ≡ checked self arguments.now }
+        ensures { result.now ≡ checked_arguments self arguments.now }
     {
         match self {
             ArgumentRule::NumberAndText if !arguments.is_empty() => &arguments[..1],

@@ -1,7 +1,7 @@
 //! What a command line says, word by word and, in a cluster, letter by letter.
 
 ghost use Rattle.std.specs.Prelude.{◌≡◌, ◌++◌, ◌<◌, ◌^◌, OnOk, IfOk, length};
-ghost use Rattle.rpm_words.specs.Prelude.{letters, said, says};
+ghost use Rattle.rpm_words.specs.Prelude.{letters, said_tokens, says};
 
 use crate::purpose::{Purpose, purpose_behind};
 use crate::switch::{Program, Switch, short_switch};
@@ -77,7 +77,7 @@ pub(crate) fn tokens_of(
     program: Program,
     words: &Words,
 ) -> Result<Vec<Token>, AllocError>
-    ensures tokens { IfOk result (λ v. v.items ≡ said program words.now) }
+    ensures tokens { IfOk result (λ v. v.items ≡ said_tokens program words.now) }
     ensures few { length words.now < 2 ^ 32 }
 {
     let mut tokens = Vec::new(alloc);

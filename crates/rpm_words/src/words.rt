@@ -1,7 +1,7 @@
 //! The words of a command line.
 
 ghost use Rattle.std.specs.Prelude.{◌≡◌, ℕ, ◌<◌, [], ◌∷◌, ◌++◌, Some, length, slice_get, OnOk, OnErr, List, ◌^◌, map, string_bytes};
-ghost use Rattle.rpm_words.specs.Prelude.{bytes_from, text_at};
+ghost use Rattle.rpm_words.specs.Prelude.{bytes_from, word_at};
 
 use std::alloc::{AllocError, Global};
 use std::marker::Model;
@@ -73,7 +73,7 @@ impl Words {
 
     /// The word at place i, from 0, or the empty text where there are no more than i words.
     pub fn text_at(&self, i: u32) -> &str
-        ensures { result.now ≡ text_at self.now i }
+        ensures { result.now ≡ word_at self.now i }
     {
         if i < self.len() { self.word(i) } else { "" }
     }

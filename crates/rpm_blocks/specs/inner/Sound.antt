@@ -5,7 +5,7 @@ use Rattle.rpm_blocks.specs.Blocks.{AreApart}
 use Rattle.rpm_blocks.specs.inner.Places.{HaveSameBlocks}
 
 -- Each insert takes a place in both vectors at most, and each removal one more among the runs, where it splits one.
-pub record IsSound (u : Inside) : Type 0 where
+pub record IsUsedSound (u : Inside) : Type 0 where
   pub ranges : AreApart 0 u.ranges.items
   pub runs : AreApart 1 u.runs.items
   pub same : HaveSameBlocks u.ranges.items u.runs.items

@@ -1,13 +1,13 @@
 -- Where the edges from one package end.
 use Rattle.std.specs.Prelude.{ℕ, ◌<◌, ◌≤◌, List, [], ◌∷◌, Bool, true, false, not, ◌&&◌, ◌==◌, Option, Some, None}
-use Rattle.rpm_tags.specs.Wanted.{Needed}
+use Rattle.rpm_tags.specs.Wanted.{Need}
 use Rattle.rpm_db.specs.State.{Package}
 use Rattle.rpm_graph.specs.declared.graph.Edge.{Edge}
 use Rattle.rpm_select.specs.Reach.{is_in}
 use Rattle.rpm_check.specs.Edges.{is_good, needs_of}
 
 -- nothing where no package has the number
-abbrev pub needs_at : Option Package → List Needed
+abbrev pub needs_at : Option Package → List Need
 needs_at None = []
 needs_at (Some p) = needs_of p
 

@@ -5,7 +5,7 @@ use Rattle.rpm_check.specs.declared.faults.CheckFault.{CheckFault}
 use Rattle.rpm_check.specs.declared.faults.CheckFault.TheVariants.{BadIndex, DiskFault, NoMemory}
 
 -- the fault of a report that a picker's fault becomes
-abbrev pub fault_in : PickFault → CheckFault
-fault_in (pick.BadIndex unit) = BadIndex unit
-fault_in pick.DiskFault = DiskFault
-fault_in pick.NoMemory = NoMemory
+abbrev pub check_fault : PickFault → CheckFault
+check_fault (pick.BadIndex unit) = BadIndex unit
+check_fault pick.DiskFault = DiskFault
+check_fault pick.NoMemory = NoMemory

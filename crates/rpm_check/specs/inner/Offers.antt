@@ -7,7 +7,7 @@ use Rattle.std.specs.Str.{bytes_eq}
 use Rattle.std.specs.declared.alloc.Global.{Global}
 use Rattle.rpm_header.specs.declared.form.HeaderFault.{HeaderFault}
 use Rattle.rpm_header.specs.Header.{Header, header}
-use Rattle.rpm_tags.specs.Wanted.{Needed}
+use Rattle.rpm_tags.specs.Wanted.{Need}
 use Rattle.rpm_version.specs.Range.{overlaps}
 use Rattle.rpm_db.specs.State.{Package, Good, Bad}
 use Rattle.rpm_select.specs.Recents.{Recalls}
@@ -16,21 +16,22 @@ use Rattle.rpm_check.specs.declared.names.Named.{Named}
 use Rattle.rpm_check.specs.declared.names.Names.{Names}
 use Rattle.rpm_check.specs.declared.offers.Offer.{Offer}
 use Rattle.rpm_check.specs.declared.offers.Range.{Range}
-use Rattle.rpm_check.specs.Unmet.{meets, provided}
+use Rattle.rpm_check.specs.Unmet.{package_meets}
+use Rattle.rpm_select.specs.Providing.{provided_ranges}
 
 -- ---- one package
 
 -- a provide has this name
-abbrev pub is_named : List ℕ → Needed → Bool
+abbrev pub is_named : List ℕ → Need → Bool
 is_named name e = bytes_eq e.name name
 
 -- a requirement's range is its flags and its version
-abbrev pub range_of : Needed → ℕ × List ℕ
+abbrev pub range_of : Need → ℕ × List ℕ
 range_of e = (e.flags, e.version)
 
 -- the ranges that a header provides under a name
 abbrev pub ranges_in : List ℕ → Header → List (ℕ × List ℕ)
-ranges_in name h = map range_of (filter (is_named name) (provided h))
+ranges_in name h = map range_of (filter (is_named name) (provided_ranges h))
 
 -- bytes offer these ranges of a name: none where they are no header
 abbrev pub ranges_read : List ℕ → Result Header HeaderFault → List (ℕ × List ℕ)
@@ -43,25 +44,25 @@ ranges_given name (Good bytes) = ranges_read name (header bytes)
 ranges_given name Bad = []
 
 -- a package's number stands beside the ranges that it offers
-abbrev pub given : List ℕ → ℕ × Package → ℕ × List (ℕ × List ℕ)
-given name e = (e.0, ranges_given name e.1)
+abbrev pub given_ranges : List ℕ → ℕ × Package → ℕ × List (ℕ × List ℕ)
+given_ranges name e = (e.0, ranges_given name e.1)
 
 -- ---- all of them
 
 -- a name alone, with every version
-abbrev pub unranged : List ℕ → Needed
-unranged name = record { name = name; flags = 0; version = [] }
+abbrev pub any_version_of : List ℕ → Need
+any_version_of name = record { name = name; flags = 0; version = [] }
 
 -- what each package that provides a name gives under it, by rising number
-abbrev pub offered : List ℕ → FinMap nat_cmp Package → List (ℕ × List (ℕ × List ℕ))
-offered name packages = map (given name) (filter (meets (unranged name)) (entries packages))
+abbrev pub offered_ranges : List ℕ → FinMap nat_cmp Package → List (ℕ × List (ℕ × List ℕ))
+offered_ranges name packages = map (given_ranges name) (filter (package_meets (any_version_of name)) (entries packages))
 
 -- a range overlaps this one
 abbrev pub is_hit : ℕ → List ℕ → ℕ × List ℕ → Bool
 is_hit flags version r = overlaps r.0 r.1 flags version
 
 -- one of the ranges of a package overlaps that of a requirement
-abbrev pub hits : Needed → ℕ × List (ℕ × List ℕ) → Bool
+abbrev pub hits : Need → ℕ × List (ℕ × List ℕ) → Bool
 hits need o = list_any (is_hit need.flags need.version) o.1
 
 -- ---- what is kept
@@ -76,7 +77,7 @@ offer_in o = (o.number, map range_in o.ranges.items)
 
 -- what was read under a name, if it was, is what the packages provide under it
 abbrev pub AreOffered : FinMap nat_cmp Package → List ℕ → Option (Vec Offer Global) → Type 0
-AreOffered packages name o = IfSome o (λ offers. map offer_in offers.items ≡ offered name packages)
+AreOffered packages name o = IfSome o (λ offers. map offer_in offers.items ≡ offered_ranges name packages)
 
 -- a name that is kept has the ranges that the packages offer of it
 abbrev pub IsNamed : FinMap nat_cmp Package → Named → Type 0

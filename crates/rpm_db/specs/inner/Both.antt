@@ -1,18 +1,19 @@
 -- A store and its index while one change goes through both: what it asks, its plan, what it leaves.
-use Rattle.std.specs.Prelude.{◌≡◌, ◌≢◌, ℕ, ◌+◌, ◌≤◌, max, List, true, false, IsTrue, IsSome, IfSome, is_none, Option, Some, None, Result, Ok, Err}
+use Rattle.std.specs.Prelude.{◌≡◌, ◌≢◌, ℕ, ◌+◌, ◌≤◌, max, List, true, false, IsTrue, IsSome, IfSome, is_none, Option}
+use Rattle.std.specs.Prelude.{Some, None, Result, Ok, Err}
 use Rattle.std.specs.Ordering.{nat_cmp}
 use Rattle.std.specs.FinMap.{FinMap}
 use Rattle.rpm_outside.specs.declared.disk.Disk as disk
 use Rattle.rpm_outside.specs.declared.disk.File.TheVariants.{Idx}
-use Rattle.rpm_outside.specs.Changes.{IsSettled}
+use Rattle.rpm_outside.specs.Changes.{IsDurable}
 use Rattle.rpm_outside.specs.Files.{Files}
 use Rattle.rpm_pkgdb.specs.declared.plan.Plan.{Plan}
 use Rattle.rpm_pkgdb.specs.Blobs.{blobs}
-use Rattle.rpm_pkgdb.specs.Placing.{placed, placement_of, put_in}
-use Rattle.rpm_pkgdb.specs.Planned.{IsFor, IsFull}
-use Rattle.rpm_pkgdb.specs.Quiet.{BlobMap, IsQuiet, StandsFor}
+use Rattle.rpm_pkgdb.specs.Placing.{placement, placement_of, put_in}
+use Rattle.rpm_pkgdb.specs.Planned.{IsFor, IsStoreFull}
+use Rattle.rpm_pkgdb.specs.Quiet.{BlobMap, IsQuiet, Represents}
 use Rattle.rpm_pkgdb.specs.Slots.{slot_with}
-use Rattle.rpm_pkgdb.specs.Store.{Keeps, Store, next_number}
+use Rattle.rpm_pkgdb.specs.Store.{KeepsStore, Store, next_number}
 use Rattle.rpm_hindex.specs.declared.plan.Work.{Work}
 use Rattle.rpm_hindex.specs.Plans.{CanWrite, LeavesOrder, units_after}
 use Rattle.rpm_hindex.specs.Rows.{Row}
@@ -21,7 +22,7 @@ use Rattle.rpm_hindex.specs.State as hindex
 use Rattle.rpm_db.specs.declared.change_fault.ChangeFault.{ChangeFault}
 use Rattle.rpm_db.specs.Lawful.{HasRows, IsWholeIndex}
 use Rattle.rpm_db.specs.Refusals.{BadIndexIs, FullIndexIs, LaterIs}
-use Rattle.rpm_db.specs.Room.{RoomCause, RoomIs, raised}
+use Rattle.rpm_db.specs.Room.{RoomCause, RoomIs, raised_store}
 use Rattle.rpm_db.specs.Rows.{rows}
 use Rattle.rpm_db.specs.Runs.{SameFiles}
 use Rattle.rpm_db.specs.State.{Package, packages, state}
@@ -39,34 +40,34 @@ pub record CanApply (units : ℕ) (work : Work) : Type 0 where
   pub ordered : LeavesOrder work
 
 -- a blob of this length is planned where it fits, or refused for its room
-abbrev pub IsPlaced : Option ℕ → ℕ → Store → Result Plan ChangeFault → Type 0
-IsPlaced n length value (Ok plan) = (placed n length value ≡ Some (placement_of plan)) × IsFor n length plan
-IsPlaced n length value (Err fault) = RoomCause (placed n length value) fault
+abbrev pub IsBlobPlanned : Option ℕ → ℕ → Store → Result Plan ChangeFault → Type 0
+IsBlobPlanned n length value (Ok plan) = (placement n length value ≡ Some (placement_of plan)) × IsFor n length plan
+IsBlobPlanned n length value (Err fault) = RoomCause (placement n length value) fault
 
 -- a header of this length had a generation left and room, or was refused for the first that it hadn't
 pub record FindsRoom {A : Type 0} (n : Option ℕ) (size : ℕ) (before after : Store)
     (result : Result A ChangeFault) : Type 0 where
-  pub later : LaterIs before.generation (IsFull before (is_none n) size) result
-  pub placed : RoomIs (put_in n size (raised before)) before after result
+  pub later : LaterIs before.generation (IsStoreFull before (is_none n) size) result
+  pub placed : RoomIs (put_in n size (raised_store before)) before after result
 
 -- ---- on a disk
 
 module _ {D : Type 0} (d : disk.Ghosts D) where
   -- a store and an index that are what the files say
-  pub record AreRead (at : D) (value : Store) (index : hindex.State) : Type 0 where
+  pub record AreBothRead (at : D) (value : Store) (index : hindex.IndexState) : Type 0 where
     pub order : hindex.is_in_order index ≡ true
-    pub keeps : IsTrue d.tells → Keeps (d.files at).pkg value
-    pub units : IsTrue d.tells → hindex.Keeps (d.files at).idx index
+    pub keeps : IsTrue d.tells → KeepsStore (d.files at).pkg value
+    pub units : IsTrue d.tells → hindex.KeepsIndexValue (d.files at).idx index
 
-  -- a store and its index can be changed: a crash leaves the same packages, and the index is current and settled
-  pub record CanChange (at : D) (value : Store) (index : hindex.State) : Type 0 where
+  -- a store and its index can be changed: a crash leaves the same packages, and the index is current and durable
+  pub record CanChange (at : D) (value : Store) (index : hindex.IndexState) : Type 0 where
     pub going : value.is_stopped ≡ false
     pub made : 1 ≤ value.pages
     pub order : hindex.is_current value.generation index ≡ true
-    pub keeps : IsTrue d.tells → Keeps (d.files at).pkg value
-    pub units : IsTrue d.tells → hindex.Keeps (d.files at).idx index
+    pub keeps : IsTrue d.tells → KeepsStore (d.files at).pkg value
+    pub units : IsTrue d.tells → hindex.KeepsIndexValue (d.files at).idx index
     pub quiet : IsTrue d.tells → IsQuiet value (d.files at) (d.left_since at (d.moment at))
-    pub settled : IsTrue d.tells → IsSettled Idx (d.files at) (d.left_since at (d.moment at))
+    pub durable : IsTrue d.tells → IsDurable Idx (d.files at) (d.left_since at (d.moment at))
 
   -- written to the index of some packages, this makes that of others, no longer than need be
   pub record LeadsTo (at : D) (units : ℕ) (before after : FinMap nat_cmp Package) (adds : List Row)
@@ -76,45 +77,47 @@ module _ {D : Type 0} (d : disk.Ghosts D) where
     pub reach : IsTrue d.tells → HasRows before (d.files at).idx
         → units_after work ≤ max (units + live_of adds) (units_for (rows after))
 
-  -- the index is full exactly where so many units are too many, and bad only where it has a fault, or where these rows, which go, are more than it counts
+  -- the index is full exactly where so many units are too many, and bad only where it has a fault, or where these rows,
+  -- which go, are more than it counts
   pub record IndexIs {A : Type 0} (at : D) (before : FinMap nat_cmp Package) (drops : List Row) (needed : ℕ)
       (result : Result A ChangeFault) : Type 0 where
     pub full : IsTrue d.tells → HasRows before (d.files at).idx → FullIndexIs needed result
     pub bad : IsTrue d.tells → BadIndexIs drops (d.files at).idx result
 
   -- the store was written: it has these blobs, after each crash too
-  pub record IsStored (at : D) (value : Store) (to : BlobMap) : Type 0 where
-    pub kept : IsTrue d.tells → Keeps (d.files at).pkg value
+  pub record IsStoreWritten (at : D) (value : Store) (to : BlobMap) : Type 0 where
+    pub kept : IsTrue d.tells → KeepsStore (d.files at).pkg value
     pub blobs_are : IsTrue d.tells → blobs (d.files at).pkg value ≡ to
     pub quiet : IsTrue d.tells → IsQuiet value (d.files at) (d.left_since at (d.moment at))
     pub stands : IsTrue d.tells → (image : Files) → d.left_since at (d.moment at) image
-        → StandsFor value.generation value.field (blobs (d.files at).pkg value) image.pkg
+        → Represents value.generation value.field (blobs (d.files at).pkg value) image.pkg
 
   -- a change of the index was written, and is sealed at this generation
-  pub record IsApplied (old new : D) (before after : hindex.State) (generation : ℕ)
+  pub record IsApplied (old new : D) (before after : hindex.IndexState) (generation : ℕ)
       (work : Work) : Type 0 where
     pub current : hindex.is_current generation after ≡ true
     pub grows : after.units ≤ max before.units (units_after work)
-    pub kept : IsTrue d.tells → hindex.Keeps (d.files new).idx after
+    pub kept : IsTrue d.tells → hindex.KeepsIndexValue (d.files new).idx after
     pub sealed : IsTrue d.tells → IsSealedAfter generation work (d.files old).idx (d.files new).idx
-    pub settled : IsTrue d.tells → IsSettled Idx (d.files new) (d.left_since new (d.moment new))
+    pub durable : IsTrue d.tells → IsDurable Idx (d.files new) (d.left_since new (d.moment new))
 
-  -- a change was written to both files: these are the blobs and the number field; of an index with so many units at least
-  pub record IsDone (old new : D) (before after : Store) (index : hindex.State) (to : BlobMap)
+  -- a change was written to both files: these are the blobs and the number field; of an index with so many units at
+  -- least
+  pub record IsDone (old new : D) (before after : Store) (index : hindex.IndexState) (to : BlobMap)
       (field least : ℕ) : Type 0 where
     pub ready : CanChange new after index
     pub generation_is : after.generation ≡ before.generation + 1
     pub state_is : IsTrue d.tells → state (d.files new).pkg after ≡ state_of to field
     pub stands : IsTrue d.tells → (image : Files) → d.left_since new (d.moment new) image
-        → StandsFor after.generation after.field (blobs (d.files new).pkg after) image.pkg
+        → Represents after.generation after.field (blobs (d.files new).pkg after) image.pkg
     pub rows_are : IsTrue d.tells → HasRows (packages (d.files old).pkg before) (d.files old).idx
         → HasRows (packages (d.files new).pkg after) (d.files new).idx
     pub reach : IsTrue d.tells → HasRows (packages (d.files old).pkg before) (d.files old).idx
         → index.units ≤ max least (units_for (rows (packages_of to)))
     pub whole : IsTrue d.tells → IsWholeIndex (d.files old).idx → IsWholeIndex (d.files new).idx
 
-  -- nothing was written or settled: the files stay, and these values
-  pub record IsRefused (old new : D) (before after : Store) (was is : hindex.State) : Type 0 where
+  -- nothing was written or synced: the files stay, and these values
+  pub record IsBothRefused (old new : D) (before after : Store) (was is : hindex.IndexState) : Type 0 where
     pub store_is : after ≡ before
     pub index_is : is ≡ was
     pub runs : Runs d SameFiles old new

@@ -18,8 +18,8 @@ row_cmp a b =
     (ordering_then (nat_cmp a.kind b.kind) (ordering_then (nat_cmp a.place b.place) (slice_cmp nat_cmp a.key b.key)))
 
 -- a row comes before another
-abbrev pub is_before : Row → Row → Bool
-is_before a b = is_lt (row_cmp a b)
+abbrev pub is_row_before : Row → Row → Bool
+is_row_before a b = is_lt (row_cmp a b)
 
 -- no row comes before the one in front of it
 abbrev pub AreInOrder : List Row → Type 0

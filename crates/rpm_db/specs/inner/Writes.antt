@@ -3,15 +3,15 @@ use Rattle.std.specs.Prelude.{◌≡◌, ◌⊎◌, ℕ, ◌+◌, List, ◌∷�
 use Rattle.std.specs.Prelude as lists
 use Rattle.std.specs.Ordering.{nat_cmp}
 use Rattle.std.specs.FinMap as finite
-use Rattle.rpm_outside.specs.Files.{Units, unit_at, blank, put}
+use Rattle.rpm_outside.specs.Files.{Units, unit_at, blank, with_units}
 use Rattle.rpm_pkgdb.specs.Blobs.{blobs}
 use Rattle.rpm_pkgdb.specs.Costs.{cost}
 use Rattle.rpm_pkgdb.specs.Store.{Store, next_number}
-use Rattle.rpm_pkgdb.specs.Quiet.{StandsFor, BlobMap}
+use Rattle.rpm_pkgdb.specs.Quiet.{Represents, BlobMap}
 use Rattle.rpm_hindex.specs.declared.plan.Work.{Work}
 use Rattle.rpm_hindex.specs.Images.{IsSealed}
 use Rattle.rpm_hindex.specs.Index.{records}
-use Rattle.rpm_hindex.specs.Plans.{after, buckets_after}
+use Rattle.rpm_hindex.specs.Plans.{file_after, buckets_after}
 use Rattle.rpm_hindex.specs.Rows.{Row, SameRows}
 use Rattle.rpm_hindex.specs.State.{seal_unit}
 use Rattle.rpm_hindex.specs.Whole.{IsWellFormed}
@@ -33,18 +33,19 @@ state_of blobs field = state_with (packages_of blobs) field
 -- after, or those after
 abbrev pub BlobsTo : ℕ → ℕ → ℕ → BlobMap → BlobMap → Units → Type 0
 BlobsTo generation field next before after image =
-    StandsFor generation field before image
-    ⊎ (StandsFor (generation + 1) field before image
-    ⊎ (StandsFor (generation + 1) next before image ⊎ StandsFor (generation + 1) next after image))
+    Represents generation field before image
+    ⊎ (Represents (generation + 1) field before image
+    ⊎ (Represents (generation + 1) next before image ⊎ Represents (generation + 1) next after image))
 
 -- the index once a change of this file was written and sealed
 abbrev pub sealed_after : ℕ → Work → Units → Units
-sealed_after generation work file = put 0 (seal_unit generation (buckets_after work) ∷ []) (after work file)
+sealed_after generation work file = with_units 0 (seal_unit generation (buckets_after work) ∷ []) (file_after work file)
 
 -- an index is sealed with the records that were written, where these are a well formed index
 pub record IsSealedAfter (generation : ℕ) (work : Work) (file image : Units) : Type 0 where
   pub is : image ≡ sealed_after generation work file
-  pub sealed : IsWellFormed (buckets_after work) (after work file) → IsSealed generation (buckets_after work) (after work file) image
+  pub sealed : IsWellFormed (buckets_after work) (file_after work file)
+      → IsSealed generation (buckets_after work) (file_after work file) image
 
 -- an index changes: it has no seal or the one from before, until it has the new one
 abbrev pub IndexTo : ℕ → Work → Units → Units → Units → Type 0
@@ -53,12 +54,12 @@ IndexTo generation work file from image =
 
 -- writing this to an index makes a well formed one
 abbrev pub WritesWhole : Work → Units → Type 0
-WritesWhole work file = IsWellFormed (buckets_after work) (after work file)
+WritesWhole work file = IsWellFormed (buckets_after work) (file_after work file)
 
 -- writing this to an index makes a well formed one of these rows
 pub record WritesRows (rows : List Row) (work : Work) (file : Units) : Type 0 where
   pub whole : WritesWhole work file
-  pub same : SameRows rows (records (buckets_after work) (after work file))
+  pub same : SameRows rows (records (buckets_after work) (file_after work file))
 
 -- the rows of a number that is there, and none for a new number
 abbrev pub old_rows : Option ℕ → finite.FinMap nat_cmp Package → List Row

@@ -3,19 +3,19 @@ use Rattle.std.specs.Prelude.{◌≡◌, ℕ, ◌<◌, List, [], ◌++◌, lengt
 use Rattle.std.proofs.Common.{ap, ◌∙◌, append_assoc}
 use Rattle.rpm_file.specs.declared.fault.ListFault.{ListFault}
 use Rattle.rpm_file.specs.declared.fault.ListFault.TheVariants as fault
-use Rattle.rpm_outside.specs.Browses.{left, Takes}
-use Rattle.rpm_outside.specs.inner.Browsing.{takes_then}
+use Rattle.rpm_outside.specs.Browses.{bytes_left, Takes}
+use Rattle.rpm_outside.specs.laws.Browsing.{takes_then}
 
 -- what comes from elsewhere than the bytes
-abbrev pub IsOutside : ListFault → Type 0
-IsOutside fault.ReadFault = Unit {0}
-IsOutside fault.NoMemory = Unit {0}
-IsOutside _ = ⊥
+abbrev pub IsOutsideList : ListFault → Type 0
+IsOutsideList fault.ReadFault = Unit {0}
+IsOutsideList fault.NoMemory = Unit {0}
+IsOutsideList _ = ⊥
 
 -- a buffer's front got so many bytes, and fewer than it has only where nothing is left
 pub record Fills (old new : Option (List ℕ)) (count : ℕ) (into : List ℕ) : Type 0 where
   pub front : Takes old new (take count into)
-  pub ended : count < length into → left new ≡ []
+  pub ended : count < length into → bytes_left new ≡ []
 
 -- the bytes that came stand after those that were there
 pub record Extends (old new : Option (List ℕ)) (before now : List ℕ) : Type 0 where
@@ -26,11 +26,13 @@ pub record Extends (old new : Option (List ℕ)) (before now : List ℕ) : Type 
 -- a row got more bytes of an item, and fewer than so many in all only where nothing is left
 pub record Appends (old new : Option (List ℕ)) (before : List ℕ) (size : ℕ) (now : List ℕ) : Type 0 where
   pub extends : Extends old new before now
-  pub ended : length now < size → left new ≡ []
+  pub ended : length now < size → bytes_left new ≡ []
 
-pub extends_then : (a b c : Option (List ℕ)) (xs ys zs : List ℕ) → Extends a b xs ys → Extends b c ys zs → Extends a c xs zs
+pub extends_then : (a b c : Option (List ℕ)) (xs ys zs : List ℕ) → Extends a b xs ys → Extends b c ys zs
+    → Extends a c xs zs
 extends_then a b c xs ys zs first second = record {
   more = first.more ++ second.more;
-  behind = second.behind ∙ ap (λ (bs : List ℕ). bs ++ second.more) first.behind ∙ append_assoc xs first.more second.more;
+  behind =
+      second.behind ∙ ap (λ (bs : List ℕ). bs ++ second.more) first.behind ∙ append_assoc xs first.more second.more;
   front = takes_then a b c first.more second.more first.front second.front;
 }

@@ -2,7 +2,7 @@
 use Rattle.std.specs.Prelude.{◌≡◌, ℕ, ◌+◌, ◌*◌, ◌≤◌, List, length, Bool, false, Option, Some, None, ◌<◌, slice_index_or}
 use Rattle.rpm_header.specs.declared.form.Form.TheVariants as form
 use Rattle.rpm_header.specs.Header.{Header, Item, is_region_tag}
-use Rattle.rpm_header.specs.Build.{retagged}
+use Rattle.rpm_header.specs.Build.{with_tag}
 use Rattle.rpm_header.specs.declared.laying.BuildFault.{BuildFault}
 use Rattle.rpm_header.specs.declared.laying.BuildFault.TheVariants as build
 use Rattle.rpm_file.specs.declared.fault.FileFault.{FileFault}
@@ -17,7 +17,8 @@ pub record HasTags (entries : List Item) (has : List Bool) : Type 0 where
 -- the tag under which an entry joins, if it does
 abbrev pub JoinsUnder : List Item → Item → Option ℕ → Type 0
 JoinsUnder main e None = dribble main e ≡ None
-JoinsUnder main e (Some tag) = (dribble main e ≡ Some (retagged tag e)) × (is_region_tag tag ≡ false) × (e.form ≡ form.Null → ⊥)
+JoinsUnder main e (Some tag) = (dribble main e ≡ Some (with_tag tag e)) × (is_region_tag tag ≡ false)
+    × (e.form ≡ form.Null → ⊥)
 
 -- each limit that is passed is one fault
 abbrev pub made_fault : BuildFault → FileFault
@@ -26,5 +27,5 @@ made_fault build.TooMuchData = TooLarge
 made_fault build.NoMemory = NoMemory
 
 -- a header's own bytes have its two lengths and its index
-abbrev pub HasIndex : Header → Type 0
-HasIndex h = 8 + 16 * length h.entries ≤ length h.blob
+abbrev pub HasIndexBytes : Header → Type 0
+HasIndexBytes h = 8 + 16 * length h.entries ≤ length h.blob

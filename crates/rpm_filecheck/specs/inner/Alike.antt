@@ -5,7 +5,8 @@ use Rattle.rpm_filecheck.specs.Owners.{Owner, is_directory}
 
 -- mode, digest and link are the same
 abbrev pub is_alike : Owner → Owner → Bool
-is_alike a b = (a.facts.mode == b.facts.mode) && (bytes_eq a.facts.digest b.facts.digest && bytes_eq a.facts.link b.facts.link)
+is_alike a b =
+    (a.facts.mode == b.facts.mode) && (bytes_eq a.facts.digest b.facts.digest && bytes_eq a.facts.link b.facts.link)
 
 -- two owners agree when they say the same of the file, or both are of directories
 abbrev pub agrees : Owner → Owner → Bool

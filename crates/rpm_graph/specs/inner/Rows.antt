@@ -1,8 +1,9 @@
 -- Rows of places, as they are made from a graph.
-use Rattle.std.specs.Prelude.{◌≡◌, ℕ, ◌<◌, ◌++◌, ◌⊎◌, List, [], ◌∷◌, Contains, length, slice_index, slice_index_or, slice_set}
-use Rattle.rpm_graph.specs.Networks.{Network, HasEdge, IsRising, edge_at}
+use Rattle.std.specs.Prelude.{◌≡◌, ℕ, ◌<◌, ◌++◌, ◌⊎◌, List, [], ◌∷◌, Contains, length, slice_index, slice_index_or}
+use Rattle.std.specs.Prelude.{slice_set}
+use Rattle.rpm_graph.specs.Networks.{Network, HasEdge, IsNumberRising, edge_at}
 use Rattle.rpm_graph.specs.Orders.{least}
-use Rattle.rpm_graph.specs.inner.Searches.{Goes, AreWithin}
+use Rattle.rpm_graph.specs.inner.Searches.{IsEdge, AreWithin}
 
 -- the rows with one more edge
 abbrev pub with_link : List (List ℕ) → ℕ → ℕ → List (List ℕ)
@@ -12,31 +13,37 @@ with_link rows v w = slice_set rows v (slice_index_or rows v [] ++ w ∷ [])
 pub record HaveEdges (g : Network) (count : ℕ) (rows : List (List ℕ)) : Type 0 where
   pub sized : length rows ≡ length g.numbers
   pub within : AreWithin rows
-  pub there : (k : ℕ) → k < count → (v : ℕ) × (w : ℕ) × (v < length g.numbers) × (slice_index g.numbers v ≡ (edge_at g.edges k).from)
-      × (slice_index g.numbers w ≡ (edge_at g.edges k).to) × Goes rows v w
-  pub back : (v w : ℕ) → Goes rows v w → HasEdge g (slice_index g.numbers v) (slice_index g.numbers w)
+  pub there : (k : ℕ) → k < count → (v : ℕ) × (w : ℕ) × (v < length g.numbers)
+      × (slice_index g.numbers v ≡ (edge_at g.edges k).from)
+      × (slice_index g.numbers w ≡ (edge_at g.edges k).to) × IsEdge rows v w
+  pub back : (v w : ℕ) → IsEdge rows v w → HasEdge g (slice_index g.numbers v) (slice_index g.numbers w)
 
 -- the lists have the numbers of the first so many places, each in the list of its place's class, rising
 pub record HaveMembers (numbers classes : List ℕ) (k : ℕ) (members : List (List ℕ)) : Type 0 where
   pub there : (v : ℕ) → v < k → Contains (slice_index_or members (slice_index classes v) []) (slice_index numbers v)
   pub only : (c n : ℕ) → Contains (slice_index_or members c []) n
       → (v : ℕ) × (v < k) × (slice_index classes v ≡ c) × (slice_index numbers v ≡ n)
-  pub rises : (c : ℕ) → IsRising (slice_index_or members c [])
+  pub rises : (c : ℕ) → IsNumberRising (slice_index_or members c [])
 
--- the rows of classes with the first so many ends of a row of the class, each by its own class, but for those of that class itself
-pub record GainEnds (classes : List ℕ) (class : ℕ) (row : List ℕ) (count : ℕ) (before after : List (List ℕ)) : Type 0 where
+-- the rows of classes with the first so many ends of a row of the class, each by its own class, but for those of that
+-- class itself
+pub record GainEnds (classes : List ℕ) (class : ℕ) (row : List ℕ) (count : ℕ)
+    (before after : List (List ℕ)) : Type 0 where
   pub sized : length after ≡ length before
-  pub keeps : (c d : ℕ) → Goes before c d → Goes after c d
-  pub there : (i : ℕ) → i < count → (slice_index classes (slice_index row i) ≡ class) ⊎ Goes after class (slice_index classes (slice_index row i))
-  pub only : (c d : ℕ) → Goes after c d → Goes before c d
+  pub keeps : (c d : ℕ) → IsEdge before c d → IsEdge after c d
+  pub there : (i : ℕ) → i < count → (slice_index classes (slice_index row i) ≡ class)
+      ⊎ IsEdge after class (slice_index classes (slice_index row i))
+  pub only : (c d : ℕ) → IsEdge after c d → IsEdge before c d
       ⊎ ((c ≡ class) × ((i : ℕ) × (i < count) × (slice_index classes (slice_index row i) ≡ d)) × (d ≡ class → ⊥))
 
--- the rows have the classes in which the edges of the first so many places end, each in the row of the class in which they begin, but for edges within a class
+-- the rows have the classes in which the edges of the first so many places end, each in the row of the class in which
+-- they begin, but for edges within a class
 pub record HaveEnds (rows : List (List ℕ)) (classes : List ℕ) (count : ℕ) (ends : List (List ℕ)) : Type 0 where
-  pub there : (v w : ℕ) → v < count → Goes rows v w
-      → (slice_index classes w ≡ slice_index classes v) ⊎ Goes ends (slice_index classes v) (slice_index classes w)
-  pub back : (c d : ℕ) → Goes ends c d
-      → (v : ℕ) × (w : ℕ) × (v < count) × Goes rows v w × (slice_index classes v ≡ c) × (slice_index classes w ≡ d) × (d ≡ c → ⊥)
+  pub there : (v w : ℕ) → v < count → IsEdge rows v w
+      → (slice_index classes w ≡ slice_index classes v) ⊎ IsEdge ends (slice_index classes v) (slice_index classes w)
+  pub back : (c d : ℕ) → IsEdge ends c d
+      → (v : ℕ) × (w : ℕ) × (v < count) × IsEdge rows v w × (slice_index classes v ≡ c) × (slice_index classes w ≡ d)
+      × (d ≡ c → ⊥)
 
 -- the numbers are the least ones of the first so many lists
 abbrev pub AreLeastNumbers : List (List ℕ) → ℕ → List ℕ → Type 0

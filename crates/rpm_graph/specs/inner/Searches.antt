@@ -1,21 +1,22 @@
--- What is true at each step of the search for the classes. Numbers are known by their places here, and each place has a row of the
--- places that its edges end at.
-use Rattle.std.specs.Prelude.{◌≡◌, ℕ, ◌+◌, ◌<◌, ◌≤◌, ◌⊎◌, List, [], ◌∷◌, map, take, drop, replicate, ◌++◌, ◌-◌, slice_set, zero, suc, Contains, length, slice_index, slice_index_or, Vec}
+-- What is true at each step of the search for the classes. Numbers are known by their places here, and each place has a
+-- row of the places that its edges end at.
+use Rattle.std.specs.Prelude.{◌≡◌, ℕ, ◌+◌, ◌<◌, ◌≤◌, ◌⊎◌, List, [], ◌∷◌, map, take, drop, replicate, ◌++◌, ◌-◌}
+use Rattle.std.specs.Prelude.{slice_set, zero, suc, Contains, length, slice_index, slice_index_or, Vec}
 use Rattle.rpm_graph.specs.declared.search.Link.{Link}
 use Rattle.rpm_graph.specs.declared.search.Search.{Search}
 use Rattle.rpm_graph.specs.Networks.{Leads}
 
 -- the rows as lists
-abbrev pub rows_of : {A : Type 0} → List (Vec ℕ A) → List (List ℕ)
-rows_of rows = map (λ row. row.items) rows
+abbrev pub row_lists : {A : Type 0} → List (Vec ℕ A) → List (List ℕ)
+row_lists rows = map (λ row. row.items) rows
 
 -- an edge goes from v to w
-abbrev pub Goes : List (List ℕ) → ℕ → ℕ → Type 0
-Goes rows v w = Contains (slice_index_or rows v []) w
+abbrev pub IsEdge : List (List ℕ) → ℕ → ℕ → Type 0
+IsEdge rows v w = Contains (slice_index_or rows v []) w
 
 -- each edge ends at a place
 abbrev pub AreWithin : List (List ℕ) → Type 0
-AreWithin rows = (v w : ℕ) → Goes rows v w → w < length rows
+AreWithin rows = (v w : ℕ) → IsEdge rows v w → w < length rows
 
 -- a link between two places
 abbrev pub link : ℕ → ℕ → Link
@@ -30,8 +31,9 @@ pub record IsSplit (rows : List (List ℕ)) (classes : List ℕ) (count : ℕ) :
   pub sized : length classes ≡ length rows
   pub bounded : (v : ℕ) → v < length rows → slice_index classes v < count
   pub filled : (c : ℕ) → c < count → (v : ℕ) × (v < length rows) × (slice_index classes v ≡ c)
-  pub falls : (v w : ℕ) → v < length rows → Goes rows v w → slice_index classes w ≤ slice_index classes v
-  pub together : (v w : ℕ) → v < length rows → w < length rows → slice_index classes v ≡ slice_index classes w → Leads (Goes rows) v w
+  pub falls : (v w : ℕ) → v < length rows → IsEdge rows v w → slice_index classes w ≤ slice_index classes v
+  pub together : (v w : ℕ) → v < length rows → w < length rows → slice_index classes v ≡ slice_index classes w
+      → Leads (IsEdge rows) v w
 
 -- the sum of f over the places whose rank is 0, which the search has not entered
 abbrev pub unseen : (ℕ → ℕ) → List ℕ → ℕ
@@ -44,7 +46,7 @@ abbrev pub unseen_count : List ℕ → ℕ
 unseen_count ranks = unseen (λ _. 1) ranks
 
 -- the place is on the path: it has a rank, which is no class's
-pub record IsOpen (n : ℕ) (ranks : List ℕ) (v : ℕ) : Type 0 where
+pub record IsOnPath (n : ℕ) (ranks : List ℕ) (v : ℕ) : Type 0 where
   pub within : v < n
   pub entered : 1 ≤ slice_index ranks v
   pub below : slice_index ranks v ≤ n
@@ -53,30 +55,35 @@ pub record IsOpen (n : ℕ) (ranks : List ℕ) (v : ℕ) : Type 0 where
 abbrev pub IsNoHigher : List ℕ → List ℕ → ℕ → ℕ → Type 0
 IsNoHigher ranks roots v w = (root : ℕ) → Contains roots root → root < slice_index ranks v → root < slice_index ranks w
 
--- an edge that was looked at goes from the path to a level that is no lower, and from a closed class to one that was closed no later
+-- an edge that was looked at goes from the path to a level that is no lower, and from a closed class to one that was
+-- closed no later
 pub record Follows (n : ℕ) (ranks roots : List ℕ) (v w : ℕ) : Type 0 where
   pub entered : 1 ≤ slice_index ranks w
   pub on_path : slice_index ranks v ≤ n → IsNoHigher ranks roots v w
   pub closed : n < slice_index ranks v → (n < slice_index ranks w) × (slice_index ranks w ≤ slice_index ranks v)
 
--- The path holds places in the order in which they were entered, and their ranks are their places on it, from 1 on; the roots cut it into
--- levels. Places of one level lead to each other, and to those of higher levels. A closed class k has the rank n + 1 + k.
+-- The path holds places in the order in which they were entered, and their ranks are their places on it, from 1 on; the
+-- roots cut it into levels. Places of one level lead to each other, and to those of higher levels. A closed class k has
+-- the rank n + 1 + k.
 pub record IsSearch (rows : List (List ℕ)) (ranks path roots : List ℕ) (pending : List Link) (closed : ℕ) : Type 0 where
   pub sized : length ranks ≡ length rows
   pub path_room : length path + unseen_count ranks ≤ length rows
   pub class_room : closed + length roots + unseen_count ranks ≤ length rows
-  pub placed : (i : ℕ) → i < length path → (slice_index path i < length rows) × (slice_index ranks (slice_index path i) ≡ i + 1)
-  pub ranked : (v : ℕ) → IsOpen (length rows) ranks v
+  pub placed : (i : ℕ) → i < length path → (slice_index path i < length rows)
+      × (slice_index ranks (slice_index path i) ≡ i + 1)
+  pub ranked : (v : ℕ) → IsOnPath (length rows) ranks v
       → (i : ℕ) × (i < length path) × (slice_index ranks v ≡ i + 1) × (slice_index path i ≡ v)
   pub bounded : (v : ℕ) → v < length rows → slice_index ranks v ≤ length rows + closed
   pub filled : (c : ℕ) → c < closed → (v : ℕ) × (v < length rows) × (slice_index ranks v ≡ length rows + 1 + c)
-  pub walks : (v w : ℕ) → IsOpen (length rows) ranks v → IsOpen (length rows) ranks w → IsNoHigher ranks roots v w → Leads (Goes rows) v w
+  pub walks : (v w : ℕ) → IsOnPath (length rows) ranks v → IsOnPath (length rows) ranks w → IsNoHigher ranks roots v w
+      → Leads (IsEdge rows) v w
   pub together : (v w : ℕ) → v < length rows → w < length rows → length rows < slice_index ranks v
-      → slice_index ranks v ≡ slice_index ranks w → Leads (Goes rows) v w
-  pub looked : (v w : ℕ) → v < length rows → 1 ≤ slice_index ranks v → Goes rows v w
+      → slice_index ranks v ≡ slice_index ranks w → Leads (IsEdge rows) v w
+  pub looked : (v w : ℕ) → v < length rows → 1 ≤ slice_index ranks v → IsEdge rows v w
       → Contains pending (link v w) ⊎ Follows (length rows) ranks roots v w
   pub pending_open : (i : ℕ) → i < length pending
-      → IsOpen (length rows) ranks (link_at pending i).from × Goes rows (link_at pending i).from (link_at pending i).to
+      → IsOnPath (length rows) ranks (link_at pending i).from
+      × IsEdge rows (link_at pending i).from (link_at pending i).to
   pub pending_rises : (i j : ℕ) → i ≤ j → j < length pending
       → slice_index ranks (link_at pending i).from ≤ slice_index ranks (link_at pending j).from
   pub rooted : (root : ℕ) → Contains roots root → root < length path
@@ -84,7 +91,7 @@ pub record IsSearch (rows : List (List ℕ)) (ranks path roots : List ℕ) (pend
   pub first : 0 < length path → Contains roots 0
 
 -- kept is the front of the roots, without those at the rank or above
-pub record IsCut (roots : List ℕ) (rank : ℕ) (kept : List ℕ) : Type 0 where
+pub record IsFrontOfRoots (roots : List ℕ) (rank : ℕ) (kept : List ℕ) : Type 0 where
   pub front : kept ≡ take (length kept) roots
   pub shorter : length kept ≤ length roots
   pub rest : (i : ℕ) → length kept ≤ i → i < length roots → rank ≤ slice_index roots i
@@ -98,10 +105,11 @@ pub record IsMarked (ranks places : List ℕ) (rank : ℕ) (marked : List ℕ) :
 -- no edge waits, or the last one that does begins at a place of no higher rank
 abbrev pub NoneWaits : List ℕ → List Link → ℕ → Type 0
 NoneWaits ranks pending rank =
-    (length pending ≡ 0) ⊎ ((0 < length pending) × (slice_index ranks (link_at pending (length pending - 1)).from ≤ rank))
+    (length pending ≡ 0) ⊎ ((0 < length pending) × (slice_index ranks (link_at pending (length pending - 1)).from
+    ≤ rank))
 
 -- a search that has entered nothing
-pub record IsFresh (count : ℕ) (s : Search) : Type 0 where
+pub record IsFreshSearch (count : ℕ) (s : Search) : Type 0 where
   pub ranks : s.ranks.items ≡ replicate count 0
   pub path : s.path.items ≡ []
   pub roots : s.roots.items ≡ []
@@ -129,13 +137,14 @@ abbrev pub Searches : List (List ℕ) → Search → Type 0
 Searches rows s = IsSearch rows s.ranks.items s.path.items s.roots.items s.pending.items s.closed
 
 -- the root is the last
-pub record IsLast (roots : List ℕ) (root : ℕ) : Type 0 where
+pub record IsLastRoot (roots : List ℕ) (root : ℕ) : Type 0 where
   pub some : 0 < length roots
   pub last : slice_index roots (length roots - 1) ≡ root
 
 -- what is left to do: the edges that wait, the levels, and both of each place that was not entered
 abbrev pub work_left : List (List ℕ) → List ℕ → List ℕ → List Link → ℕ
-work_left rows ranks roots pending = length pending + length roots + unseen (λ v. length (slice_index_or rows v []) + 2) ranks
+work_left rows ranks roots pending =
+    length pending + length roots + unseen (λ v. length (slice_index_or rows v []) + 2) ranks
 
 -- how much is left to do, which falls with each step
 abbrev pub work : List (List ℕ) → Search → ℕ

@@ -19,7 +19,8 @@ LeafKeeps old new = (k : ℕ) → is_some (page_in old k) ≡ true → is_some (
 -- a leaf in whose page k these units are held from unit `at` on, and the others as before
 pub record LeafWrote (k at : ℕ) (bytes : List ℕ) (old new : Leaf) : Type 0 where
   pub inside : (m : ℕ) → m < length bytes / 16 → in_paged (page_in new k) (at + m) ≡ Some (unit_in bytes m)
-  pub outside : (m : ℕ) → (m < at) ⊎ (at + length bytes / 16 ≤ m) → in_paged (page_in new k) m ≡ in_paged (page_in old k) m
+  pub outside : (m : ℕ) → (m < at) ⊎ (at + length bytes / 16 ≤ m)
+      → in_paged (page_in new k) m ≡ in_paged (page_in old k) m
   pub other : (j : ℕ) → (j ≡ k → ⊥) → page_in new j ≡ page_in old j
 
 -- two tables have the same pages by number
@@ -39,10 +40,11 @@ abbrev pub KeepsPages : Table → Table → Type 0
 KeepsPages old new = (q : ℕ) → is_some (page_at old q) ≡ true → is_some (page_at new q) ≡ true
 
 -- a table holds these units from this one on, and the others as before
-pub record Holds (unit : ℕ) (bytes : List ℕ) (old new : Table) : Type 0 where
+pub record HoldsUnits (unit : ℕ) (bytes : List ℕ) (old new : Table) : Type 0 where
   pub inside : (k : ℕ) → k < length bytes / 16 → held_at new (unit + k) ≡ Some (unit_in bytes k)
   pub outside : (i : ℕ) → (i < unit) ⊎ (unit + length bytes / 16 ≤ i) → held_at new i ≡ held_at old i
 
 -- the held ones of the units from this one on were copied over others
 abbrev pub LaysOver : ℕ → Table → List ℕ → List ℕ → Type 0
-LaysOver unit table old new = (k : ℕ) → k < length old / 16 → unit_in new k ≡ unwrap_or (held_at table (unit + k)) (unit_in old k)
+LaysOver unit table old new = (k : ℕ) → k < length old / 16
+    → unit_in new k ≡ unwrap_or (held_at table (unit + k)) (unit_in old k)

@@ -10,14 +10,18 @@ use Rattle.rpm_group.specs.Orders.{AreRuns}
 use Rattle.rpm_group.specs.inner.HeldUnits.{units_held}
 
 -- a list of entries writes what is held of a file below a unit, and nothing else
-pub record Logged (entries : List Entry) (file : File) (table : Table) (below : ℕ) : Type 0 where
+pub record EntriesOfTable (entries : List Entry) (file : File) (table : Table) (below : ℕ) : Type 0 where
   pub covers : (i : ℕ) → i < below → is_held table i ≡ true → Covers entries file i
-  pub units : (files : Files) (i : ℕ) → i < below → unit_at (file_of file (with_entries entries files)) i ≡ unit_over table (file_of file files) i
-  pub rest : (files : Files) (i : ℕ) → below ≤ i → unit_at (file_of file (with_entries entries files)) i ≡ unit_at (file_of file files) i
-  pub others : (files : Files) (other : File) → (other ≡ file → ⊥) → file_of other (with_entries entries files) ≡ file_of other files
+  pub units : (files : Files) (i : ℕ) → i < below
+      → unit_at (file_of file (with_entries entries files)) i ≡ unit_over table (file_of file files) i
+  pub rest : (files : Files) (i : ℕ) → below ≤ i
+      → unit_at (file_of file (with_entries entries files)) i ≡ unit_at (file_of file files) i
+  pub others : (files : Files) (other : File) → (other ≡ file → ⊥)
+      → file_of other (with_entries entries files) ≡ file_of other files
   -- the end of the last of them
   pub end : ℕ
-  pub long : (files : Files) → length (file_of file (with_entries entries files)) ≡ max (length (file_of file files)) end
+  pub long : (files : Files) → length (file_of file (with_entries entries files))
+      ≡ max (length (file_of file files)) end
   pub end_below : end ≤ below
   pub gap : (i : ℕ) → end ≤ i → i < below → is_held table i ≡ false
   pub count : length entries ≡ count_below (begins_run table) below

@@ -6,11 +6,11 @@ use Rattle.rpm_header.specs.declared.form.Form.TheVariants as form
 use Rattle.rpm_header.specs.Bytes.{texts}
 use Rattle.rpm_header.specs.Header.{Item, values, numbers_of, texts_of, element_fault, is_region_tag}
 use Rattle.rpm_header.specs.Build.{AllFit, IsText}
-use Rattle.rpm_header.specs.Laid.{bytes_by, bytes_in, joined}
+use Rattle.rpm_header.specs.Laid.{bytes_by, entry_bytes, joined_texts}
 
 -- the texts that these bytes hold are all that they hold
 pub record IsJoined (count : ℕ) (bytes : List ℕ) : Type 0 where
-  pub stored : bytes ≡ joined (texts count bytes)
+  pub stored : bytes ≡ joined_texts (texts count bytes)
   pub each : AllByRecursion IsText (texts count bytes)
 
 -- the elements that these bytes hold are all that they hold
@@ -21,11 +21,11 @@ pub record IsPacked (f : Form) (count : ℕ) (bytes : List ℕ) : Type 0 where
 -- an entry that is read again from its bytes, whatever follows them
 pub record ReadsBack (e : Item) : Type 0 where
   pub tag : e.tag < 2 ^ 32
-  pub few : e.count ≤ length (bytes_in e)
+  pub few : e.count ≤ length (entry_bytes e)
   pub no_region : is_region_tag e.tag ≡ false
   pub no_null : e.form ≢ form.Null
-  pub again : (rest : List ℕ) → values e.form e.count (bytes_in e ++ rest) ≡ e.values
-  pub sound : (i : ℕ) (rest : List ℕ) → element_fault e.form i e.count (bytes_in e ++ rest) ≡ None
+  pub again : (rest : List ℕ) → values e.form e.count (entry_bytes e ++ rest) ≡ e.values
+  pub sound : (i : ℕ) (rest : List ℕ) → element_fault e.form i e.count (entry_bytes e ++ rest) ≡ None
 
 -- the entry of so many elements, with which these bytes begin
 abbrev pub item_at : ℕ → Form → ℕ → List ℕ → Item

@@ -21,9 +21,9 @@ pub record IsSummed (bytes : List ℕ) (stride : ℕ) (sums : List ℕ) : Type 0
   pub each : (k : ℕ) → k < 4096 → slice_index sums k ≡ zeros (drop (k * stride) bytes)
 
 -- what stands after so many texts
-unfoldable pub skipped : ℕ → List ℕ → List ℕ
-skipped zero bytes = bytes
-skipped (suc n) bytes = skipped n (after_first is_zero bytes)
+unfoldable pub after_texts : ℕ → List ℕ → List ℕ
+after_texts zero bytes = bytes
+after_texts (suc n) bytes = after_texts n (after_first is_zero bytes)
 
 -- a table of sums has for each stride how many bytes in front of it are zero
 pub record AreCounted (bytes : List ℕ) (stride : ℕ) (sums : List ℕ) : Type 0 where

@@ -1,5 +1,6 @@
 -- A change that is being worked out, as the index that it would leave.
-use Rattle.std.specs.Prelude.{◌≡◌, ℕ, ◌+◌, ◌-◌, ◌*◌, ◌/◌, ◌%◌, ◌^◌, ◌<◌, ◌≤◌, ◌⊎◌, List, [], length, map, Bool, not, if◌then◌else◌, nat_lt, Option, Some, None, unwrap_or, true, Err, Result, IsOk}
+use Rattle.std.specs.Prelude.{◌≡◌, ℕ, ◌+◌, ◌-◌, ◌*◌, ◌/◌, ◌%◌, ◌^◌, ◌<◌, ◌≤◌, ◌⊎◌, List, [], length, map, Bool, not}
+use Rattle.std.specs.Prelude.{if◌then◌else◌, nat_lt, Option, Some, None, unwrap_or, true, Err, Result, IsOk}
 use Rattle.std.specs.Ordering.{nat_cmp}
 use Rattle.std.specs.BTreeMap.{get}
 use Rattle.std.specs.BTreeSet.{contains}
@@ -16,8 +17,9 @@ use Rattle.rpm_hindex.specs.declared.faults.PrepareFault.TheVariants.{IndexFull,
 use Rattle.rpm_outside.specs.Words.{word, unit_of_words}
 use Rattle.rpm_hindex.specs.Rows.{Row, times}
 use Rattle.rpm_hindex.specs.Sizes.{first_record, bucket_count, units_for, live_of}
-use Rattle.rpm_hindex.specs.inner.Drafts.{IsImage}
-use Rattle.rpm_hindex.specs.Index.{Index, index_in, chain, is_link, row_at, bucket_unit, all_places, places_of, rows_of, units_at}
+use Rattle.rpm_hindex.specs.inner.Drafts.{IsDraftOf}
+use Rattle.rpm_hindex.specs.Index.{Index, index_in, chain, is_link, row_at, bucket_unit, all_places, places_of, rows_of}
+use Rattle.rpm_hindex.specs.Index.{units_at}
 use Rattle.rpm_hindex.specs.Padding.{AddsPadded}
 use Rattle.rpm_hindex.specs.Whole.{IsWhole}
 use Rattle.rpm_hindex.specs.Refusals.{HoldsMore}
@@ -30,7 +32,7 @@ abbrev pub is_kept : (ℕ → Bool) → ℕ → Bool
 is_kept dropped place = not (dropped place)
 
 -- one place more is dropped
-pub record Drops (old new : ℕ → Bool) (place : ℕ) : Type 0 where
+pub record DropOfOne (old new : ℕ → Bool) (place : ℕ) : Type 0 where
   pub here : new place ≡ true
   pub others : (q : ℕ) → (q ≡ place → ⊥) → new q ≡ old q
 
@@ -95,7 +97,7 @@ pub record CanBegin (extent : Extent) (count units : ℕ) : Type 0 where
   pub records : count ≤ 2 * extent.buckets
 
 -- a change that changes nothing yet, of an index of so many records of so many units
-pub record Begins (here : Extent) (count size : ℕ) (c : Change) : Type 0 where
+pub record IsUnchanged (here : Extent) (count size : ℕ) (c : Change) : Type 0 where
   pub extent : c.extent ≡ here
   pub tail : c.tail.items ≡ []
   pub units : (q : ℕ) → get nat_cmp c.units q ≡ None
@@ -124,8 +126,8 @@ index_with buckets used units tail file = record {
   unit = λ i. if nat_lt i used then unit_after units file i else unit_at (units_of tail) (i - used);
 }
 
-abbrev pub changing : Change → Units → Index
-changing c file = index_with c.extent.buckets c.extent.used (λ q. get nat_cmp c.units q) c.tail.items file
+abbrev pub index_after : Change → Units → Index
+index_after c file = index_with c.extent.buckets c.extent.used (λ q. get nat_cmp c.units q) c.tail.items file
 
 -- a record that stays but for its next
 pub record Stays (u v : ℕ → List ℕ) (q : ℕ) : Type 0 where
@@ -135,23 +137,26 @@ pub record Stays (u v : ℕ → List ℕ) (q : ℕ) : Type 0 where
   pub key : (i : ℕ) → q < i → i < q + units_at u q → v i ≡ u i
 
 -- the index of a change has the chains of the file without the places that were dropped
-pub record IsCut (c : Change) (file : Units) : Type 0 where
-  pub whole : IsWhole c.records c.live (changing c file)
-  pub chains : (b : ℕ) → b < c.extent.buckets → places_of (changing c file) b ≡ filter (is_kept (λ p. contains nat_cmp c.dropped p))
+pub record IsWithoutDropped (c : Change) (file : Units) : Type 0 where
+  pub whole : IsWhole c.records c.live (index_after c file)
+  pub chains : (b : ℕ) → b < c.extent.buckets → places_of (index_after c file) b
+      ≡ filter (is_kept (λ p. contains nat_cmp c.dropped p))
       (places_of (index_in c.extent.buckets file) b)
-  pub stays : (q : ℕ) → Contains (all_places (index_in c.extent.buckets file)) q → Stays (unit_at file) (changing c file).unit q
+  pub stays : (q : ℕ) → Contains (all_places (index_in c.extent.buckets file)) q
+      → Stays (unit_at file) (index_after c file).unit q
 
 -- the index of a change of which nothing is worked out yet is that of the file
 pub record IsStarted (c : Change) (file : Units) : Type 0 where
-  pub whole : IsWhole c.records c.live (changing c file)
-  pub rows' : rows_of (changing c file) ≡ rows_of (index_in c.extent.buckets file)
-  pub cut : IsCut c file
+  pub whole : IsWhole c.records c.live (index_after c file)
+  pub rows' : rows_of (index_after c file) ≡ rows_of (index_in c.extent.buckets file)
+  pub cut : IsWithoutDropped c file
 
 -- the index of d is whole, and has these rows more than that of c, in records that are padded
 pub record AddsRows (c d : Change) (file : Units) (rows : List Row) : Type 0 where
-  pub whole : IsWhole d.records d.live (changing d file)
-  pub rows' : (row : Row) → times row (rows_of (changing d file)) ≡ times row (rows_of (changing c file)) + times row rows
-  pub padded : AddsPadded (changing c file) (changing d file)
+  pub whole : IsWhole d.records d.live (index_after d file)
+  pub rows' : (row : Row) → times row (rows_of (index_after d file)) ≡ times row (rows_of (index_after c file))
+      + times row rows
+  pub padded : AddsPadded (index_after c file) (index_after d file)
 
 -- ---- what is written of it
 
@@ -162,7 +167,8 @@ patch_of e = record { unit = e.0; words = e.1 }
 abbrev pub IsWorkOf : Change → Work → Type 0
 IsWorkOf c (InPlace p) =
     (p.units.items ≡ map patch_of c.units.entries) × (p.tail ≡ c.tail) × (p.used ≡ c.extent.used)
-    × (p.second ≡ unit_of_words (c.extent.used + length c.tail.items / 16) c.records c.live 0) × (p.buckets ≡ c.extent.buckets)
+    × (p.second ≡ unit_of_words (c.extent.used + length c.tail.items / 16) c.records c.live 0)
+    × (p.buckets ≡ c.extent.buckets)
 IsWorkOf c (Scratch image) = ⊥
 
 -- ---- the rows that are kept
@@ -182,7 +188,8 @@ HasLess drops old new = (row : Row) → times row new ≡ times row old - times 
 -- what is written is from scratch, and an image of these rows
 abbrev pub IsScratchOf : List Row → Work → Type 0
 IsScratchOf rows (InPlace p) = ⊥
-IsScratchOf rows (Scratch image) = (image.buckets ≡ bucket_count (length rows)) × IsImage rows (bucket_count (length rows)) image.bytes.items
+IsScratchOf rows (Scratch image) = (image.buckets ≡ bucket_count (length rows))
+    × IsDraftOf rows (bucket_count (length rows)) image.bytes.items
 
 -- ---- faults
 
@@ -226,15 +233,19 @@ HasNoFault x = (b : ℕ) → b < x.buckets → IsOk (chain x b)
 abbrev pub HasFault : Index → FindFault → Type 0
 HasFault x e = (b : ℕ) × (b < x.buckets) × IsFaultOf (chain x b) e
 
--- each bucket's word is a link or as it was, and, where no chain has a fault, what unit 1 counts fell no faster than what the chains keep
+-- each bucket's word is a link or as it was, and, where no chain has a fault, what unit 1 counts fell no faster than
+-- what the chains keep
 pub record IsHonest (c : Change) (file : Units) : Type 0 where
-  pub heads : (b : ℕ) → b < c.extent.buckets → (is_link (changing c file) ((changing c file).head b) ≡ true)
-      ⊎ ((changing c file).head b ≡ (index_in c.extent.buckets file).head b)
-  pub records : HasNoFault (index_in c.extent.buckets file) → word 1 (unit_at file 1) + sum_by (if_kept (is_kept (λ p. contains nat_cmp c.dropped p)) (λ p. 1))
+  pub heads : (b : ℕ) → b < c.extent.buckets → (is_link (index_after c file) ((index_after c file).head b) ≡ true)
+      ⊎ ((index_after c file).head b ≡ (index_in c.extent.buckets file).head b)
+  pub records : HasNoFault (index_in c.extent.buckets file)
+      → word 1 (unit_at file 1) + sum_by (if_kept (is_kept (λ p. contains nat_cmp c.dropped p)) (λ p. 1))
       (all_places (index_in c.extent.buckets file)) ≤ c.records + length (all_places (index_in c.extent.buckets file))
   pub live : HasNoFault (index_in c.extent.buckets file)
-      → word 2 (unit_at file 1) + sum_by (if_kept (is_kept (λ p. contains nat_cmp c.dropped p)) (units_at (unit_at file)))
-      (all_places (index_in c.extent.buckets file)) ≤ c.live + sum_by (units_at (unit_at file)) (all_places (index_in c.extent.buckets file))
+      → word 2 (unit_at file 1) + sum_by (if_kept (is_kept (λ p. contains nat_cmp c.dropped p))
+      (units_at (unit_at file)))
+      (all_places (index_in c.extent.buckets file)) ≤ c.live
+      + sum_by (units_at (unit_at file)) (all_places (index_in c.extent.buckets file))
 
 -- a fault that names a unit names the fault of a bucket's chain, or unit 1, which counts too little unless there is one
 abbrev pub IsBadSoFar : ℕ → Units → PrepareFault → Type 0
@@ -274,7 +285,7 @@ IsShort drops c x DiskFault = Unit {0}
 IsShort drops c x NoMemory = Unit {0}
 
 -- a change of this file that has dropped nothing yet
-pub record IsFresh (c : Change) (file : Units) : Type 0 where
+pub record IsFreshChange (c : Change) (file : Units) : Type 0 where
   pub records : c.records ≡ word 1 (unit_at file 1)
   pub live : c.live ≡ word 2 (unit_at file 1)
   pub kept : (p : ℕ) → is_kept (λ q. contains nat_cmp c.dropped q) p ≡ true

@@ -26,21 +26,21 @@ pub record IsDraft (rows : List Row) (heads bytes : List ℕ) : Type 0 where
   pub padded : ArePadded (draft_index heads bytes)
 
 -- the file has these units from unit 1 on
-abbrev pub Holds : Units → Units → Type 0
-Holds units file = (k : ℕ) → k < length units → unit_at file (1 + k) ≡ unit_at units k
+abbrev pub HasDraftUnits : Units → Units → Type 0
+HasDraftUnits units file = (k : ℕ) → k < length units → unit_at file (1 + k) ≡ unit_at units k
 
 -- a file that is an index of these rows, which take no unit more than from scratch
-pub record IsMade (rows : List Row) (buckets : ℕ) (file : Units) : Type 0 where
+pub record IsIndexMade (rows : List Row) (buckets : ℕ) (file : Units) : Type 0 where
   pub whole : IsWellFormed buckets file
   pub same : SameRows rows (records buckets file)
   pub padded : ArePadded (index_in buckets file)
 
 -- units 1 to the end of an index of these rows are these bytes
-pub record IsImage (rows : List Row) (buckets : ℕ) (bytes : List ℕ) : Type 0 where
+pub record IsDraftOf (rows : List Row) (buckets : ℕ) (bytes : List ℕ) : Type 0 where
   pub whole_units : length bytes % 16 ≡ 0
   pub long : 1 + length bytes / 16 ≡ first_record buckets + live_of rows
   pub used : word 0 (unit_at (units_of bytes) 0) ≡ first_record buckets + live_of rows
   pub count : word 1 (unit_at (units_of bytes) 0) ≡ length rows
   pub live : word 2 (unit_at (units_of bytes) 0) ≡ live_of rows
   pub last : word 3 (unit_at (units_of bytes) 0) ≡ 0
-  pub made : (file : Units) → Holds (units_of bytes) file → IsMade rows buckets file
+  pub made : (file : Units) → HasDraftUnits (units_of bytes) file → IsIndexMade rows buckets file

@@ -8,7 +8,7 @@ use Rattle.rpm_hindex.specs.declared.spots.Spot.{Spot}
 use Rattle.rpm_hindex.specs.Rows.{Row}
 use Rattle.rpm_hindex.specs.Index.{bucket_unit}
 use Rattle.rpm_hindex.specs.inner.Records.{index_at}
-use Rattle.rpm_hindex.specs.inner.Spots.{IsFound, IsFoundFrom, IsLinked, IsPath, IsSoundSpot, IsWithin}
+use Rattle.rpm_hindex.specs.inner.Spots.{IsRowFound, IsFoundFrom, IsLinked, IsPath, IsSoundSpot, IsWithin}
 
 module _ {D : Type 0} (d : disk.Ghosts D) where
   -- the spot of a row among the records of a bucket from a place to another, or that there is none
@@ -27,4 +27,4 @@ module _ {D : Type 0} (d : disk.Ghosts D) where
     pub within : IsWithin extent.used f.spot
     pub linked : IsLinked extent.buckets extent.used f.spot
     pub sound : IsTrue d.tells → IsSoundSpot (index_at d at extent) bucket f.spot
-    pub found : IsTrue d.tells → IsFound (index_at d at extent) bucket kept row f.spot
+    pub found : IsTrue d.tells → IsRowFound (index_at d at extent) bucket kept row f.spot

@@ -5,10 +5,11 @@ use Rattle.rpm_outside.specs.Words.{unit_of_words}
 use Rattle.rpm_hindex.specs.Sizes.{key_units}
 
 -- the zeros after a key of so many bytes
-abbrev pub padding : ℕ → List ℕ
-padding length = replicate (16 * key_units length - length) 0
+abbrev pub key_padding : ℕ → List ℕ
+key_padding length = replicate (16 * key_units length - length) 0
 
 -- a record, unit by unit
 unfoldable pub record_of : ℕ → ℕ → List ℕ → ℕ → ℕ → Units
 record_of next kind key number place =
-    unit_of_words next (kind * 2 ^ 28 + length key) number place ∷ cut_up (key_units (length key)) (key ++ padding (length key))
+    unit_of_words next (kind * 2 ^ 28 + length key) number place
+    ∷ cut_up (key_units (length key)) (key ++ key_padding (length key))

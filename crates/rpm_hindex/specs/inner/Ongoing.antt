@@ -12,11 +12,12 @@ use Rattle.rpm_hindex.specs.Index.{Index, index_in}
 use Rattle.rpm_hindex.specs.Plans.{CanWrite, LeavesOrder, second_after}
 use Rattle.rpm_hindex.specs.State.{EndsInZero}
 use Rattle.rpm_hindex.specs.Whole.{IsWhole, IsWellFormed}
-use Rattle.rpm_hindex.specs.inner.Changes.{CanGo, AddsRows, IsCut, IsHonest, IsBadSoFar, HasNoFault, HasGone, IsShort, HasLess, changing, kept_in}
+use Rattle.rpm_hindex.specs.inner.Changes.{CanGo, AddsRows, IsWithoutDropped, IsHonest, IsBadSoFar, HasNoFault, HasGone}
+use Rattle.rpm_hindex.specs.inner.Changes.{IsShort, HasLess, index_after, kept_in}
 use Rattle.rpm_hindex.specs.inner.Starts.{AreStarts, StandWithin}
 
 -- the change can go on, with as many buckets, and the same records after all others
-pub record GoesOn (old new : Change) : Type 0 where
+pub record IsOngoing (old new : Change) : Type 0 where
   pub go : CanGo new
   pub extent : new.extent ≡ old.extent
   pub tail : new.tail ≡ old.tail
@@ -38,28 +39,28 @@ abbrev pub one_row : ℕ → List ℕ → ℕ → ℕ → List Row
 one_row kind key number place = row_with kind key number place ∷ []
 
 -- the index of the file that a change is of
-abbrev pub index_of : Change → Units → Index
-index_of c file = index_in c.extent.buckets file
+abbrev pub index_of_change : Change → Units → Index
+index_of_change c file = index_in c.extent.buckets file
 
 -- a step dropped these rows of a file, as far as the change kept them
 pub record DropsRows (file : Units) (drops : List Row) (old new : Change) : Type 0 where
   pub less : IsWellFormed old.extent.buckets file
-      → HasLess drops (kept_in (index_of old file) old) (kept_in (index_of old file) new)
+      → HasLess drops (kept_in (index_of_change old file) old) (kept_in (index_of_change old file) new)
   pub cuts : IsWellFormed old.extent.buckets file → length old.tail.items ≡ 0
-      → IsCut old file → IsCut new file
+      → IsWithoutDropped old file → IsWithoutDropped new file
   pub honest : IsHonest old file → IsHonest new file
-  pub gone : HasNoFault (index_of old file) → HasGone drops old new (index_of old file)
+  pub gone : HasNoFault (index_of_change old file) → HasGone drops old new (index_of_change old file)
 
 -- a fault of a step that drops these rows: a unit that it names has a chain's fault, or is unit 1,
 -- which counts too little
 pub record IsDropFault (file : Units) (drops : List Row) (old : Change) (fault : PrepareFault)
     : Type 0 where
-  pub short : HasNoFault (index_of old file) → IsShort drops old (index_of old file) fault
+  pub short : HasNoFault (index_of_change old file) → IsShort drops old (index_of_change old file) fault
   pub bad : IsHonest old file → IsBadSoFar old.extent.buckets file fault
 
 -- a step added these rows to a file
 pub record HasAdded (file : Units) (adds : List Row) (old new : Change) : Type 0 where
-  pub rows : IsWhole old.records old.live (changing old file) → AddsRows old new file adds
+  pub rows : IsWhole old.records old.live (index_after old file) → AddsRows old new file adds
   pub honest : IsHonest old file → IsHonest new file
 
 -- what is written can be written to each file, and leaves unit 1 in order

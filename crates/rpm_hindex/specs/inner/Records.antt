@@ -11,7 +11,7 @@ use Rattle.rpm_hindex.specs.Index.{Index, chain, index_in, units_at}
 use Rattle.rpm_hindex.specs.inner.Spots.{PathCosts}
 
 -- the file has so many buckets, and its records end there
-pub record IsOpen (extent : Extent) (file : Units) : Type 0 where
+pub record HasBuckets (extent : Extent) (file : Units) : Type 0 where
   pub fours : extent.buckets % 4 ≡ 0
   pub used : word 0 (unit_at file 1) ≡ extent.used
   pub some : first_record extent.buckets ≤ extent.used
@@ -21,7 +21,7 @@ module _ {D : Type 0} (d : disk.Ghosts D) where
   -- the file's chains can be read with so many buckets and this end of the records
   pub record CanRead (at : D) (extent : Extent) : Type 0 where
     pub few : extent.buckets ≤ 2 ^ 28
-    pub is_open : IsTrue d.tells → IsOpen extent (d.files at).idx
+    pub is_open : IsTrue d.tells → HasBuckets extent (d.files at).idx
 
   -- the index that the file holds with this extent
   abbrev pub index_at : D → Extent → Index

@@ -17,17 +17,17 @@ is_loose copies Idx = copies.loose_idx
 is_loose copies Log = copies.loose_log
 
 -- what a write to one file makes of that of another, and what a sync does
-abbrev pub loosened : File → File → Bool → Bool
-loosened Pkg Pkg loose = true
-loosened Idx Idx loose = true
-loosened Log Log loose = true
-loosened file other loose = loose
+abbrev pub is_loose_after_write : File → File → Bool → Bool
+is_loose_after_write Pkg Pkg loose = true
+is_loose_after_write Idx Idx loose = true
+is_loose_after_write Log Log loose = true
+is_loose_after_write file other loose = loose
 
-abbrev pub tightened : File → File → Bool → Bool
-tightened Pkg Pkg loose = false
-tightened Idx Idx loose = false
-tightened Log Log loose = false
-tightened file other loose = loose
+abbrev pub is_loose_after_sync : File → File → Bool → Bool
+is_loose_after_sync Pkg Pkg loose = false
+is_loose_after_sync Idx Idx loose = false
+is_loose_after_sync Log Log loose = false
+is_loose_after_sync file other loose = loose
 
 -- one copy more, of these files at this moment
 pub record AddsCopy (old new : List Copy) (at : ℕ) (files : Files) : Type 0 where
@@ -46,10 +46,10 @@ pub record NoneLoose (copies : Copies) : Type 0 where
   pub idx : copies.loose_idx ≡ false
   pub log : copies.loose_log ≡ false
 
-pub record SettlesFile (old new : Copies) (file : File) (at : ℕ) (files : Files) : Type 0 where
-  pub pkg : new.loose_pkg ≡ tightened file Pkg old.loose_pkg
-  pub idx : new.loose_idx ≡ tightened file Idx old.loose_idx
-  pub log : new.loose_log ≡ tightened file Log old.loose_log
+pub record SyncsFile (old new : Copies) (file : File) (at : ℕ) (files : Files) : Type 0 where
+  pub pkg : new.loose_pkg ≡ is_loose_after_sync file Pkg old.loose_pkg
+  pub idx : new.loose_idx ≡ is_loose_after_sync file Idx old.loose_idx
+  pub log : new.loose_log ≡ is_loose_after_sync file Log old.loose_log
   pub kept : (new.kept.items ≡ old.kept.items) ⊎ (NoneLoose new × AddsCopy old.kept.items new.kept.items at files)
 
 -- a copy is kept, and isn't after this moment
@@ -77,4 +77,5 @@ pub record IsCopy (steps : List Step) (first : Files) (copy : Copy) : Type 0 whe
 -- each copy is one, and a file that isn't loose is in each image as it reads
 pub record HoldCopies (copies : Copies) (steps : List Step) (first now : Files) : Type 0 where
   pub each : (k : ℕ) (copy : Copy) → slice_get copies.kept.items k ≡ Some copy → IsCopy steps first copy
-  pub settled : (file : File) → is_loose copies file ≡ false → (pick : Pick) → file_of file (picked_image pick steps first first) ≡ file_of file now
+  pub durable : (file : File) → is_loose copies file ≡ false → (pick : Pick)
+      → file_of file (picked_image pick steps first first) ≡ file_of file now

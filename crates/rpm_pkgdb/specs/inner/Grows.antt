@@ -13,7 +13,8 @@ with_page value = record value { pages = value.pages + 1; slots = value.slots ++
 pub record CanGrow (value : Store) : Type 0 where
   pub made : 1 ≤ value.pages
   pub limit : 256 * (value.pages + 1) ≤ 2 ^ 28
-  pub clear : (k : ℕ) → is_used (slot_at value.slots k) ≡ true → 256 * (value.pages + 1) ≤ (slot_at value.slots k).offset
+  pub clear : (k : ℕ) → is_used (slot_at value.slots k) ≡ true
+      → 256 * (value.pages + 1) ≤ (slot_at value.slots k).offset
 
 -- the new page has free slots
 pub record HasFreePage (pages : ℕ) (file : Units) : Type 0 where

@@ -11,7 +11,8 @@ use Rattle.rpm_pkgdb.specs.Undamaged.{AreSound}
 -- what a value keeps of its slots, whether the disk tells or not
 pub record IsKept (numbers : Pairs) (pages : ℕ) (slots : List Slot) : Type 0 where
   pub places : HasPlaces (find_in numbers) slots
-  pub numbered : (k : ℕ) → k < length slots → is_used (slot_at slots k) ≡ true → IsPackageNumber (slot_at slots k).number
+  pub numbered : (k : ℕ) → k < length slots → is_used (slot_at slots k) ≡ true
+      → IsPackageNumber (slot_at slots k).number
   pub sound : AreSound pages (2 ^ 28) slots
   pub limit : 256 * pages ≤ 2 ^ 28
   pub count : length slots ≡ 256 * pages - 2
@@ -21,7 +22,7 @@ abbrev pub AreUsedTo : List Slot → ℕ → Type 0
 AreUsedTo slots place = (k : ℕ) → k < place → is_used (slot_at slots k) ≡ true
 
 -- what is true of the fields of a value
-pub record IsSound (s : Inside) : Type 0 where
+pub record IsValueSound (s : Inside) : Type 0 where
   pub kept : IsKept s.numbers.pairs s.pages s.slots.items
   -- what making a database takes
   pub blank : s.pages ≡ 0 → 254 ≤ vec_capacity s.slots

@@ -10,6 +10,6 @@ abbrev pub shared_fault : List Slot → Slot → Option Damage
 shared_fault earlier s = option_map (damage_at (2 + length earlier)) (shared_reason earlier s)
 
 -- the first fault of slots after these earlier ones
-abbrev pub meeting : List Slot → List Slot → Option Damage
-meeting earlier [] = None
-meeting earlier (s ∷ ss) = option_or (shared_fault earlier s) (meeting (earlier ++ s ∷ []) ss)
+abbrev pub first_shared_fault : List Slot → List Slot → Option Damage
+first_shared_fault earlier [] = None
+first_shared_fault earlier (s ∷ ss) = option_or (shared_fault earlier s) (first_shared_fault (earlier ++ s ∷ []) ss)

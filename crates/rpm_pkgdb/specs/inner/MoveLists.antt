@@ -33,7 +33,8 @@ pub record IsMovable (slots : List Slot) (m : Move) : Type 0 where
   pub place : m.place + 3 ≤ 2 ^ 28
   pub end : end_of (slot_at slots m.place) ≤ 2 ^ 28
   pub room : m.to + (slot_at slots m.place).count ≤ 2 ^ 28
-  pub apart : (m.to + (slot_at slots m.place).count ≤ (slot_at slots m.place).offset) ⊎ (end_of (slot_at slots m.place) ≤ m.to)
+  pub apart : (m.to + (slot_at slots m.place).count ≤ (slot_at slots m.place).offset)
+      ⊎ (end_of (slot_at slots m.place) ≤ m.to)
 
 -- a value may grow by a page with these moves, or has none to add
 abbrev pub CanGrowBy : Store → Option (List Move) → Type 0

@@ -37,7 +37,8 @@ pub record AllMoved (slots : List Slot) (end : ℕ) (page : Page) : Type 0 where
 -- a place whose range begins at the least block so far, or none
 abbrev pub IsHere : List Slot → ℕ → ℕ → Option ℕ → Type 0
 IsHere slots end least None = least ≡ end
-IsHere slots end least (Some p) = (p < length slots) × (is_used (slot_at slots p) ≡ true) × ((slot_at slots p).offset ≡ least) × (least < end)
+IsHere slots end least (Some p) = (p < length slots) × (is_used (slot_at slots p) ≡ true)
+    × ((slot_at slots p).offset ≡ least) × (least < end)
 
 -- a list of places has that of each used slot, among the first so many, whose blocks begin before a block
 pub record HasPlacesSoFar (slots : List Slot) (end count : ℕ) (places : List ℕ) : Type 0 where
@@ -50,7 +51,9 @@ pub record HasPlacesBefore (slots : List Slot) (end : ℕ) (places : List ℕ) :
   pub all : (j : ℕ) → is_used (slot_at slots j) ≡ true → (slot_at slots j).offset < end → Contains places j
 
 -- the first of the used ranges at the first so many of these places that begins before a block
-pub record IsFirstSoFar (slots : List Slot) (places : List ℕ) (end count : ℕ) (first : Option ℕ) (least : ℕ) : Type 0 where
+pub record IsFirstSoFar (slots : List Slot) (places : List ℕ) (end count : ℕ) (first : Option ℕ)
+    (least : ℕ) : Type 0 where
   pub no_more : least ≤ end
-  pub low : (i : ℕ) → i < count → is_used (slot_at slots (nth places i)) ≡ true → least ≤ (slot_at slots (nth places i)).offset
+  pub low : (i : ℕ) → i < count → is_used (slot_at slots (nth places i)) ≡ true
+      → least ≤ (slot_at slots (nth places i)).offset
   pub here : IsHere slots end least first

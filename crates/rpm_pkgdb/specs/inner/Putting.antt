@@ -9,10 +9,10 @@ use Rattle.rpm_pkgdb.specs.Frame.{pkg, Quiet}
 use Rattle.rpm_pkgdb.specs.Framing.{next_unit}
 use Rattle.rpm_pkgdb.specs.Freed.{KeepsBlank}
 use Rattle.rpm_pkgdb.specs.Slots.{slot_at, end_of, free}
-use Rattle.rpm_pkgdb.specs.Store.{Store, Keeps}
-use Rattle.rpm_pkgdb.specs.Written.{next_field, with_blob}
-use Rattle.rpm_pkgdb.specs.inner.Puts.{CanPut, StandsWith}
-use Rattle.rpm_pkgdb.specs.inner.Within.{EndsBy}
+use Rattle.rpm_pkgdb.specs.Store.{Store, KeepsStore}
+use Rattle.rpm_pkgdb.specs.Written.{next_field, with_put}
+use Rattle.rpm_pkgdb.specs.inner.Puts.{CanPut, RepresentsPut}
+use Rattle.rpm_pkgdb.specs.inner.Within.{KeepsEnd}
 
 -- the slot that a target replaces, and a free one for a new number
 pub record IsReplaced (value : Store) (target : Target) (old : Slot) : Type 0 where
@@ -34,10 +34,10 @@ module _ {D : Type 0} (d : disk.Ghosts D) where
   pub record IsBlobPut (old new : D) (target : Target) (generation : ℕ) (replaced : Slot)
       (blob : List ℕ) : Type 0 where
     pub stands : (value : Store) → CanPut value target generation replaced blob
-        → Keeps (pkg d old) value
-        → StandsWith value target generation blob (pkg d old) (pkg d new)
+        → KeepsStore (pkg d old) value
+        → RepresentsPut value target generation blob (pkg d old) (pkg d new)
     pub quiet : (value : Store) → CanPut value target generation replaced blob
-        → Keeps (pkg d old) value → Quiet d new (with_blob target value)
+        → KeepsStore (pkg d old) value → Quiet d new (with_put target value)
     pub next : replaced ≡ free
         → IfSome (next_field target) (λ n. unit_at (pkg d new) 1 ≡ next_unit n)
     pub stays : 2 ≤ target.start → 2 ≤ replaced.offset → target.is_new ≡ false
@@ -48,4 +48,4 @@ module _ {D : Type 0} (d : disk.Ghosts D) where
         (pkg d new)
     pub reach : (limit : ℕ) → target.start + blocks_for (length blob) ≤ limit
         → target.place + 3 ≤ limit → end_of replaced ≤ limit
-        → EndsBy limit (pkg d old) (pkg d new)
+        → KeepsEnd limit (pkg d old) (pkg d new)

@@ -6,24 +6,25 @@ use Rattle.rpm_pkgdb.specs.declared.slot.Slot.{Slot}
 use Rattle.rpm_pkgdb.specs.Slots.{slot_at, is_used}
 
 -- the blocks of a slot
-abbrev pub range_of : Slot → Range
-range_of s = range s.offset s.count
+abbrev pub range_of_slot : Slot → Range
+range_of_slot s = range s.offset s.count
 
 -- a used slot that has these blocks
-pub record UsedBy (slots : List Slot) (x : Range) : Type 0 where
+pub record UsedSlotOf (slots : List Slot) (x : Range) : Type 0 where
   pub at : ℕ
   pub used : is_used (slot_at slots at) ≡ true
-  pub is : x ≡ range_of (slot_at slots at)
+  pub is : x ≡ range_of_slot (slot_at slots at)
 
 -- the ranges are those of the used slots
 pub record AreRangesOf (ranges : List Range) (slots : List Slot) : Type 0 where
-  pub each : (k : ℕ) → is_used (slot_at slots k) ≡ true → Contains ranges (range_of (slot_at slots k))
-  pub only : (x : Range) → Contains ranges x → UsedBy slots x
+  pub each : (k : ℕ) → is_used (slot_at slots k) ≡ true → Contains ranges (range_of_slot (slot_at slots k))
+  pub only : (x : Range) → Contains ranges x → UsedSlotOf slots x
 
 -- the ranges are those of the used ones of the first so many slots
 pub record AreRangesTo (slots : List Slot) (count : ℕ) (ranges : List Range) : Type 0 where
-  pub each : (k : ℕ) → k < count → is_used (slot_at slots k) ≡ true → Contains ranges (range_of (slot_at slots k))
-  pub only : (x : Range) → Contains ranges x → (k : ℕ) × (k < count) × (is_used (slot_at slots k) ≡ true) × (x ≡ range_of (slot_at slots k))
+  pub each : (k : ℕ) → k < count → is_used (slot_at slots k) ≡ true → Contains ranges (range_of_slot (slot_at slots k))
+  pub only : (x : Range) → Contains ranges x → (k : ℕ) × (k < count) × (is_used (slot_at slots k) ≡ true)
+      × (x ≡ range_of_slot (slot_at slots k))
 
 -- where they were gathered, they are, and have room for so many more
 abbrev pub HasUsed : Option Blocks → ℕ → List Slot → Type 0
@@ -43,10 +44,10 @@ Forgets start None (Some d) = ⊥
 Forgets start (Some b) None = ⊥
 
 -- a range was put in
-abbrev pub Remembers : Slot → Option Blocks → Option Blocks → Type 0
-Remembers s None new = ⊥
-Remembers s (Some b) None = ⊥
-Remembers s (Some b) (Some d) = (d.ranges ≡ with_range (range_of s) b.ranges) × (d.spare + 1 ≡ b.spare)
+abbrev pub HasRange : Slot → Option Blocks → Option Blocks → Type 0
+HasRange s None new = ⊥
+HasRange s (Some b) None = ⊥
+HasRange s (Some b) (Some d) = (d.ranges ≡ with_range (range_of_slot s) b.ranges) × (d.spare + 1 ≡ b.spare)
 
 -- a used slot's range was taken out
 pub record ForgetsSlot (s : Slot) (old new : Option Blocks) : Type 0 where
@@ -56,4 +57,4 @@ pub record ForgetsSlot (s : Slot) (old new : Option Blocks) : Type 0 where
 -- there is room for one more range, which is free
 abbrev pub IsFreeIn : Slot → Option Blocks → Type 0
 IsFreeIn s None = ⊥
-IsFreeIn s (Some b) = IsFree b.ranges (range_of s) × (1 ≤ b.spare)
+IsFreeIn s (Some b) = IsFree b.ranges (range_of_slot s) × (1 ≤ b.spare)

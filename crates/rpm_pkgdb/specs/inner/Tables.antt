@@ -17,11 +17,13 @@ AreOwn pages units us count = (k : ℕ) → k < count → own_reason pages units
 
 -- the number of each used slot can be that of a package
 abbrev pub AreNumbered : List Slot → Type 0
-AreNumbered slots = (k : ℕ) → k < length slots → is_used (slot_at slots k) ≡ true → IsPackageNumber (slot_at slots k).number
+AreNumbered slots = (k : ℕ) → k < length slots → is_used (slot_at slots k) ≡ true
+    → IsPackageNumber (slot_at slots k).number
 
 -- each used slot has blocks, which end by the limit
 abbrev pub AreBounded : List Slot → Type 0
-AreBounded slots = (k : ℕ) → is_used (slot_at slots k) ≡ true → (0 < (slot_at slots k).count) × (end_of (slot_at slots k) ≤ 2 ^ 28)
+AreBounded slots = (k : ℕ) → is_used (slot_at slots k) ≡ true → (0 < (slot_at slots k).count)
+    × (end_of (slot_at slots k) ≤ 2 ^ 28)
 
 -- not too many slots, and each is right by itself
 pub record AreRight (slots : List Slot) : Type 0 where
@@ -30,12 +32,12 @@ pub record AreRight (slots : List Slot) : Type 0 where
   pub numbered : AreNumbered slots
 
 -- each used slot is found by its number, and the first free one is noted
-pub record IsIndexed (t : Table) : Type 0 where
+pub record IsTableIndexed (t : Table) : Type 0 where
   pub places : HasPlaces (find_in t.numbers.pairs) t.slots.items
   pub taken : AreUsedTo t.slots.items t.free_from
 
 -- a fault that is none of the file
-abbrev pub IsOutside : OpenFault → Type 0
-IsOutside (Damaged d) = ⊥
-IsOutside DiskFault = Unit {0}
-IsOutside NoMemory = Unit {0}
+abbrev pub IsOutsideTable : OpenFault → Type 0
+IsOutsideTable (Damaged d) = ⊥
+IsOutsideTable DiskFault = Unit {0}
+IsOutsideTable NoMemory = Unit {0}

@@ -7,11 +7,11 @@ use Rattle.rpm_pkgdb.specs.Slots.{slot_at, is_used, end_of}
 use Rattle.rpm_pkgdb.specs.Store.{Store}
 
 -- a file that ended by it still does
-abbrev pub EndsBy : ℕ → Units → Units → Type 0
-EndsBy limit old new = length old ≤ limit → length new ≤ limit
+abbrev pub KeepsEnd : ℕ → Units → Units → Type 0
+KeepsEnd limit old new = length old ≤ limit → length new ≤ limit
 
 -- the slot pages and all used blocks end by it
-pub record IsWithin (limit : ℕ) (value : Store) : Type 0 where
+pub record AreBlocksWithin (limit : ℕ) (value : Store) : Type 0 where
   pub pages : 256 * value.pages ≤ limit
   pub used : (k : ℕ) → is_used (slot_at value.slots k) ≡ true → end_of (slot_at value.slots k) ≤ limit
 

@@ -21,5 +21,5 @@ abbrev pub AreValues : Header → ℕ → List (Option Found) → Type 0
 AreValues header number kept = All (λ o. IfSome o (IsValue header number)) kept
 
 -- what is kept at a place is of this tag
-abbrev pub IsOf : List (Option Found) → ℕ → Tag → Type 0
-IsOf kept k tag = (found : Found) → slice_get kept k ≡ Some (Some found) → found.asked.tag ≡ tag
+abbrev pub IsOfTag : List (Option Found) → ℕ → Tag → Type 0
+IsOfTag kept k tag = (found : Found) → slice_get kept k ≡ Some (Some found) → found.asked.tag ≡ tag

@@ -20,26 +20,34 @@ coded_tree End = gnum 0
 coded_tree (Text b rest) = gcons (gnum 1) (gcons ((coded_list coded_ℕ).code b) (coded_tree rest))
 coded_tree (Tagged t rest) = gcons (gnum 2) (gcons (part_code.code t) (coded_tree rest))
 coded_tree (Bracket inner rest) = gcons (gnum 3) (gcons (coded_tree inner) (coded_tree rest))
-coded_tree (Condition t first second rest) = gcons (gnum 4) (gcons (gcons (tag_code.code t) (coded_tree first)) (gcons (coded_tree second) (coded_tree rest)))
+coded_tree (Condition t first second rest) =
+    gcons (gnum 4) (gcons (gcons (tag_code.code t) (coded_tree first)) (gcons (coded_tree second) (coded_tree rest)))
 
-abbrev head : Gv → Gv
-head gnil = gnil
-head (gnum n) = gnil
-head (gcons a b) = a
+abbrev code_head : Gv → Gv
+code_head gnil = gnil
+code_head (gnum n) = gnil
+code_head (gcons a b) = a
 
-abbrev tail : Gv → Gv
-tail gnil = gnil
-tail (gnum n) = gnil
-tail (gcons a b) = b
+abbrev code_tail : Gv → Gv
+code_tail gnil = gnil
+code_tail (gnum n) = gnil
+code_tail (gcons a b) = b
 
 pub same_tree : (x y : Tree) → coded_tree x ≡ coded_tree y → x ≡ y
 same_tree End End p = refl
-same_tree (Text b r) (Text c s) p = λ i. Text ((coded_list coded_ℕ).inj b c (ap (λ g. head (tail g)) p) i) (same_tree r s (ap (λ g. tail (tail g)) p) i)
-same_tree (Tagged t r) (Tagged u s) p = λ i. Tagged (part_code.inj t u (ap (λ g. head (tail g)) p) i) (same_tree r s (ap (λ g. tail (tail g)) p) i)
-same_tree (Bracket a r) (Bracket b s) p = λ i. Bracket (same_tree a b (ap (λ g. head (tail g)) p) i) (same_tree r s (ap (λ g. tail (tail g)) p) i)
+same_tree (Text b r) (Text c s) p = λ i. Text ((coded_list coded_ℕ).inj b c (ap (λ g. code_head (code_tail g)) p) i)
+    (same_tree r s (ap (λ g. code_tail (code_tail g)) p) i)
+same_tree (Tagged t r) (Tagged u s) p =
+    λ i. Tagged (part_code.inj t u (ap (λ g. code_head (code_tail g)) p) i)
+    (same_tree r s (ap (λ g. code_tail (code_tail g)) p) i)
+same_tree (Bracket a r) (Bracket b s) p =
+    λ i. Bracket (same_tree a b (ap (λ g. code_head (code_tail g)) p) i)
+    (same_tree r s (ap (λ g. code_tail (code_tail g)) p) i)
 same_tree (Condition t a b r) (Condition u c d s) p =
-    λ i. Condition (tag_code.inj t u (ap (λ g. head (head (tail g))) p) i) (same_tree a c (ap (λ g. tail (head (tail g))) p) i)
-    (same_tree b d (ap (λ g. head (tail (tail g))) p) i) (same_tree r s (ap (λ g. tail (tail (tail g))) p) i)
+    λ i. Condition (tag_code.inj t u (ap (λ g. code_head (code_head (code_tail g))) p) i)
+    (same_tree a c (ap (λ g. code_tail (code_head (code_tail g))) p) i)
+    (same_tree b d (ap (λ g. code_head (code_tail (code_tail g))) p) i)
+    (same_tree r s (ap (λ g. code_tail (code_tail (code_tail g))) p) i)
 same_tree x y p = cc
 
 abbrev pub tree_code : Coded Tree

@@ -32,8 +32,8 @@ abbrev pub has_row : List Row → ℕ → Kind × List ℕ → Bool
 has_row rows n (kind, key) = list_any (is_row_of (code_of kind) key n) rows
 
 -- a list of numbers gets those that have rows of a key
-abbrev pub Adds : List Row → Kind × List ℕ → List ℕ → List ℕ → Type 0
-Adds rows key old new = (n : ℕ) → is_in n new ≡ (is_in n old || has_row rows n key)
+abbrev pub NumbersOfKey : List Row → Kind × List ℕ → List ℕ → List ℕ → Type 0
+NumbersOfKey rows key old new = (n : ℕ) → is_in n new ≡ (is_in n old || has_row rows n key)
 
 -- the numbers that have rows of one of these keys
 abbrev pub AreWith : List Row → List (Kind × List ℕ) → List ℕ → Type 0

@@ -13,4 +13,4 @@ piece_in (piece.Set turned members) = glob.Set turned members.now
 
 -- a piece of a pattern as it is written, with its length
 abbrev pub written_in : Written → glob.Written
-written_in w = glob.written (piece_in w.piece) w.size
+written_in w = glob.written_piece (piece_in w.piece) w.size

@@ -12,7 +12,7 @@ reach_of (code.One n) = These (n ∷ [])
 reach_of (code.These numbers) = These numbers.items
 
 -- the numbers that an index gave rise
-abbrev pub IsRising : declared.Reach → Type 0
-IsRising code.All = Unit {0}
-IsRising (code.One n) = Unit {0}
-IsRising (code.These numbers) = IsStrictlyIncreasing numbers.items
+abbrev pub AreNumbersRising : declared.Reach → Type 0
+AreNumbersRising code.All = Unit {0}
+AreNumbersRising (code.One n) = Unit {0}
+AreNumbersRising (code.These numbers) = IsStrictlyIncreasing numbers.items

@@ -32,6 +32,7 @@ OneOf sel n None (Err fault) = Unit {0}
 -- what a selection does with the bytes that a package is read from
 abbrev pub TakenIs : Selection → ℕ → List ℕ → Taken → Type 0
 TakenIs sel n blob (taken.Good length) =
-    (is_picked sel (n, state.package_of (Some blob)) ≡ true) × (state.package_of (Some blob) ≡ state.Good (take length blob)) × IsOwn (take length blob)
+    (is_picked sel (n, state.package_of (Some blob)) ≡ true)
+    × (state.package_of (Some blob) ≡ state.Good (take length blob)) × IsOwn (take length blob)
 TakenIs sel n blob taken.Passed = is_picked sel (n, state.package_of (Some blob)) ≡ false
 TakenIs sel n blob taken.Bad = state.package_of (Some blob) ≡ state.Bad

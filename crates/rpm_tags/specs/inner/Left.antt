@@ -11,6 +11,6 @@ texts_left (left.Joined None) = []
 texts_left (left.Joined (Some parts)) = concat parts ∷ []
 texts_left (left.Files paths) = paths
 
-abbrev pub IsLeft : Left → Type 0
-IsLeft (left.Stored texts) = All (λ text. length text ≤ max_data) texts
-IsLeft _ = Unit {0}
+abbrev pub IsPartLeft : Left → Type 0
+IsPartLeft (left.Stored texts) = All (λ text. length text ≤ max_data) texts
+IsPartLeft _ = Unit {0}

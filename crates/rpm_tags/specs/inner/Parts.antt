@@ -9,9 +9,9 @@ use Rattle.rpm_tags.specs.declared.joined.TextPart.TheVariants as part
 abbrev pub digits_of : Digits → List ℕ
 digits_of d = drop d.start d.bytes
 
-abbrev pub bytes_of : TextPart → List ℕ
-bytes_of (part.Text text) = text.now
-bytes_of (part.Number digits) = digits_of digits
+abbrev pub bytes_of_parts : TextPart → List ℕ
+bytes_of_parts (part.Text text) = text.now
+bytes_of_parts (part.Number digits) = digits_of digits
 
 -- the digits of a number lie within their bytes
 abbrev pub IsPart : TextPart → Type 0
@@ -20,7 +20,7 @@ IsPart (part.Number digits) = digits.start ≤ 20
 
 -- a count of parts have these bytes
 abbrev pub parts_of : ℕ → List TextPart → List (List ℕ)
-parts_of count parts = take count (map bytes_of parts)
+parts_of count parts = take count (map bytes_of_parts parts)
 
 pub record IsInParts (count len : ℕ) (parts : List TextPart) : Type 0 where
   pub nine : length parts ≡ 9

@@ -1,16 +1,16 @@
 -- What the elements of an entry keep of it.
 use Rattle.std.specs.Prelude.{◌≡◌, ℕ, ◌+◌, ◌^◌, ◌≤◌, ◌<◌, true, List, length, drop, All}
 use Rattle.rpm_tags.specs.Value.{are_matched, file_names}
-use Rattle.rpm_header.specs.Header.{max_data, Item, has_numbers, has_texts, IsWhole}
+use Rattle.rpm_header.specs.Header.{max_data, Item, has_numbers, has_texts, IsEntryWhole}
 
 pub record KeepsNumbers (e : Item) : Type 0 where
   pub form : has_numbers e.form ≡ true
-  pub whole : IsWhole e
+  pub whole : IsEntryWhole e
   pub some : 0 < e.count
 
 pub record KeepsTexts (count : ℕ) (e : Item) : Type 0 where
   pub form : has_texts e.form ≡ true
-  pub whole : IsWhole e
+  pub whole : IsEntryWhole e
   pub some : 0 < count
   pub within : count ≤ e.count
 

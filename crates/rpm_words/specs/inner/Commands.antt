@@ -7,24 +7,24 @@ use Rattle.rpm_words.specs.declared.ask.Mode.TheVariants as mode
 use Rattle.rpm_words.specs.Ask.{mode_of}
 
 -- the command of a mode of the code
-abbrev pub command_in : Mode → Command
-command_in mode.Query = command.Query
-command_in mode.Addpkg = command.Addpkg
-command_in mode.Replacepkg = command.Replacepkg
-command_in mode.Erasepkg = command.Erasepkg
-command_in mode.Verify = command.Verify
-command_in mode.Initdb = command.Initdb
-command_in mode.Rebuilddb = command.Rebuilddb
-command_in mode.Verifydb = command.Verifydb
-command_in mode.Exportdb = command.Exportdb
-command_in mode.Importdb = command.Importdb
-command_in (mode.Exercise n) = command.Exercise
-command_in mode.Order = command.Order
-command_in mode.Checkfiles = command.Checkfiles
-command_in mode.Help = command.Help
-command_in mode.Version = command.Version
+abbrev pub command_of_mode : Mode → Command
+command_of_mode mode.Query = command.Query
+command_of_mode mode.Addpkg = command.Addpkg
+command_of_mode mode.Replacepkg = command.Replacepkg
+command_of_mode mode.Erasepkg = command.Erasepkg
+command_of_mode mode.Verify = command.Verify
+command_of_mode mode.Initdb = command.Initdb
+command_of_mode mode.Rebuilddb = command.Rebuilddb
+command_of_mode mode.Verifydb = command.Verifydb
+command_of_mode mode.Exportdb = command.Exportdb
+command_of_mode mode.Importdb = command.Importdb
+command_of_mode (mode.Exercise n) = command.Exercise
+command_of_mode mode.Order = command.Order
+command_of_mode mode.Checkfiles = command.Checkfiles
+command_of_mode mode.Help = command.Help
+command_of_mode mode.Version = command.Version
 
-pub command_back : (c : Command) (n : ℕ) → command_in (mode_of c n) ≡ c
+pub command_back : (c : Command) (n : ℕ) → command_of_mode (mode_of c n) ≡ c
 command_back command.Query n = refl
 command_back command.Addpkg n = refl
 command_back command.Replacepkg n = refl

@@ -8,13 +8,13 @@ use Rattle.rpm_words.specs.Purpose.{is_equals}
 use Rattle.rpm_words.specs.Place.{own_place}
 
 -- a value in the option's own word begins after the first `=`
-pub record IsCut (text : List ℕ) (from : ℕ) : Type 0 where
+pub record IsCutAtEquals (text : List ℕ) (from : ℕ) : Type 0 where
   pub within : position_or_len is_equals text < length text
   pub behind : from ≡ position_or_len is_equals text + 1
 
 -- a value that stands in a word begins within it
 abbrev pub IsSpelled : List ℕ → Purpose → Type 0
-IsSpelled text (Inline switch from) = IsCut text from
+IsSpelled text (Inline switch from) = IsCutAtEquals text from
 IsSpelled text others = Unit {0}
 
 -- the folder after a word, where it was `before` in front of it

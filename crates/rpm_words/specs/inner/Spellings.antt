@@ -5,8 +5,8 @@ use Rattle.rpm_words.specs.declared.switch.Spelling.{Spelling}
 use Rattle.rpm_words.specs.declared.switch.Switch.{Switch}
 
 -- the spellings of the code as a table
-abbrev pub as_table : List Spelling → List (List ℕ × Switch)
-as_table spellings = map (λ (s : Spelling). (s.0.now, s.1)) spellings
+abbrev pub as_spellings : List Spelling → List (List ℕ × Switch)
+as_spellings spellings = map (λ (s : Spelling). (s.0.now, s.1)) spellings
 
 -- the option that a table has for a text
 unfoldable pub switch_in : List (List ℕ × Switch) → List ℕ → Option Switch

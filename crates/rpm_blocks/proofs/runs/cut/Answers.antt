@@ -1,5 +1,5 @@
 use Rattle.std.proofs.Common.{◌≡◌, ◌-◌, refl, arith}
-use Rattle.rpm_blocks.proofs.Vocabulary.{end_of, Range}
+use Rattle.rpm_blocks.proofs.Vocabulary.{end_of_range, Range}
 use Rattle.rpm_blocks.proofs.Cuts.{same_cut, free_cut, free_of_gap, gap_within}
 use Rattle.rpm_blocks.proofs.runs.cut.Goals as goal
 
@@ -8,7 +8,7 @@ pub put_part-requires-2-clause-gap : goal.put_part-requires-2-clause-gap
 put_part-requires-2-clause-gap c =
     let taken = c.take_run-at.ensures in
     let below : Range = record { start = c.take_run-at.result.1.start; count = c.args.range.start - c.take_run-at.result.1.start } in
-    let ends : end_of below ≡ c.args.range.start = omega (arith, taken.starts) in
+    let ends : end_of_range below ≡ c.args.range.start = omega (arith, taken.starts) in
     let place = gap_within 1 1 c.take_run-at.new.runs.items c.take_run-at.result.1 below c.take_run-at.result.0 taken.gap (omega arith)
     (omega (arith, taken.ends)) in
     c.put_part.ensures.gap below place (omega (arith, c.requires.range.filled, c.end.ensures))

@@ -1,5 +1,5 @@
 use Rattle.std.proofs.Common.{◌≡◌, ◌+◌, ◌<◌, length, sym, refl, ◌∙◌, arith}
-use Rattle.rpm_blocks.proofs.Vocabulary.{end_of, IsRange, Range, range_at}
+use Rattle.rpm_blocks.proofs.Vocabulary.{end_of_range, IsRange, Range, range_at}
 use Rattle.rpm_blocks.proofs.Parts.{read_at, joined_above}
 use Rattle.rpm_blocks.proofs.runs.join_above.Goals as goal
 
@@ -14,7 +14,7 @@ returns-clause-same c =
     let is : x ≡ range_at l i = read_at l i x lt c.remove-run.ensures.value in
     let read = read_at l i c.index.result.now lt c.index.ensures in
     let whole : Range = record { start = r.start; count = r.count + x.count } in
-    let touch : end_of r ≡ x.start = rw (is, ← read) (sym (c.if-index-end.false ∙ c.end.ensures)) in
+    let touch : end_of_range r ≡ x.start = rw (is, ← read) (sym (c.if-index-end.false ∙ c.end.ensures)) in
     rw c.remove-run.ensures.items (joined_above l c.requires.apart i lt x is r whole refl touch (omega (arith, touch)))
 
 -- both end by the limit, so their blocks are few enough

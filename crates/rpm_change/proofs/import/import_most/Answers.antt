@@ -1,10 +1,10 @@
 use Rattle.std.proofs.Common.{◌≡◌, Ok, Err, refl, min, arith}
 use Rattle.std.specs.Prelude.{codes}
-use Rattle.rpm_change.proofs.Vocabulary.{absent_line, bytes_at, err_is, err_stopped, failing, import_list, import_listed, left, listed, once, ready_line}
-use Rattle.rpm_change.proofs.Vocabulary.{ToErr, went_as, whole}
+use Rattle.rpm_change.proofs.Vocabulary.{absent_line, bytes_at, err_is, err_stopped, course_of_failure, import_list, import_listed, bytes_left, listed_headers, once, ready_line}
+use Rattle.rpm_change.proofs.Vocabulary.{ToErr, went_as, whole_step}
 use Rattle.rpm_change.proofs.Filed.{opened_is}
 use Rattle.rpm_change.proofs.Imported.{went_once}
-use Rattle.rpm_change.specs.inner.Owing.{list_settled, list_stopped, list_unsettled, owing_begun}
+use Rattle.rpm_change.specs.laws.Owing.{list_durable, list_stopped, list_unsettled, owing_begun}
 use Rattle.rpm_change.proofs.import.import_most.Goals as goal
 
 pub import_all-requires-clause-gathering : goal.import_all-requires-clause-gathering
@@ -14,7 +14,7 @@ import_all-requires-clause-gathering g c =
 pub returns-in_err-tally-in-Ok-clause-went : goal.returns-in_err-tally-in-Ok-clause-went
 returns-in_err-tally-in-Ok-clause-went g c =
     let rest = g.S.Shelf.rest c.open.new.self in
-    let course = import_listed c.args.most (listed (left rest)) in
+    let course = import_listed c.args.most (listed_headers (bytes_left rest)) in
     let found = bytes_at (g.S.Shelf.paths c.args.shelf.now) (codes "-") in
     let b = c.begin-batch.ensures in
     rw (err_is c.from_residual.result c.from_residual.ensures) (went_as g.D.Disk (once course) (import_list c.args.most found) (λ both. both)
@@ -25,7 +25,7 @@ returns-in_err-tally-in-Ok-clause-went g c =
 pub returns-in_ok-finish-in-Ok-clause-went : goal.returns-in_ok-finish-in-Ok-clause-went
 returns-in_ok-finish-in-Ok-clause-went g c =
     let rest = g.S.Shelf.rest c.open.new.self in
-    let course = import_listed c.args.most (listed (left rest)) in
+    let course = import_listed c.args.most (listed_headers (bytes_left rest)) in
     let found = bytes_at (g.S.Shelf.paths c.args.shelf.now) (codes "-") in
     let b = c.begin-batch.ensures in
     let f = c.in_ok-finish-in-Ok.ensures in
@@ -33,13 +33,13 @@ returns-in_ok-finish-in-Ok-clause-went g c =
     rw low (went_as g.D.Disk (once course) (import_list c.args.most found) (λ both. both)
     (λ both. let opened = c.in-Ok.ensures.opened both.1 in rw (opened_is found rest opened.0 opened.1) refl) (λ s t e. e)
     (went_once g.D.Disk g.E.Sink c.args.err.now c.import_all.new.err course (Ok c.in_ok-tally-in-Ok.tally)
-    (list_settled g.D.Disk c.requires.ready b.goes b.order b.sealed b.none (λ both. both.0) g.met.D.Disk.follows_trans c.finish.new.db
-    (rw b.same at c.in_ok-tally-in-Ok.ensures.went) f.left.indexed f.runs f.cause.later f.store f.packages f.settled f.whole)))
+    (list_durable g.D.Disk c.requires.ready b.goes b.order b.sealed b.none (λ both. both.0) g.met.D.Disk.follows_trans c.finish.new.db
+    (rw b.same at c.in_ok-tally-in-Ok.ensures.went) f.left.indexed f.runs f.cause.later f.store f.packages f.has_rows f.whole)))
 
 pub returns-in_err-finish-in-Ok-clause-went : goal.returns-in_err-finish-in-Ok-clause-went
 returns-in_err-finish-in-Ok-clause-went g c =
     let rest = g.S.Shelf.rest c.open.new.self in
-    let course = import_listed c.args.most (listed (left rest)) in
+    let course = import_listed c.args.most (listed_headers (bytes_left rest)) in
     let found = bytes_at (g.S.Shelf.paths c.args.shelf.now) (codes "-") in
     let b = c.begin-batch.ensures in
     let f = c.in_err-finish-in-Ok.ensures in
@@ -54,6 +54,7 @@ returns-in_err-finish-in-Ok-clause-went g c =
 
 pub returns-in-Err-clause-went : goal.returns-in-Err-clause-went
 returns-in-Err-clause-went g c =
-    went_as g.D.Disk (failing (ToErr (whole 0) (absent_line (codes "-")))) (import_list c.args.most (bytes_at (g.S.Shelf.paths c.args.shelf.now) (codes "-")))
+    went_as g.D.Disk (course_of_failure (ToErr (whole_step 0) (absent_line (codes "-"))))
+    (import_list c.args.most (bytes_at (g.S.Shelf.paths c.args.shelf.now) (codes "-")))
     (λ both. both) (λ both. rw (c.in-Err.ensures.opened both.1).1 refl) (λ s t e. e)
-    (ready_line g.D.Disk g.met.D.Disk.follows_refl c.requires.ready g.E.Sink c.put_failing.result (whole 0) c.put_failing.ensures)
+    (ready_line g.D.Disk g.met.D.Disk.follows_refl c.requires.ready g.E.Sink c.put_failing.result (whole_step 0) c.put_failing.ensures)

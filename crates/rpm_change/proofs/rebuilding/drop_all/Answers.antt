@@ -1,6 +1,6 @@
 use Rattle.rpm_change.proofs.Vocabulary.{err_is, out_stopped}
 use Rattle.rpm_change.proofs.Erased.{index_rebuilds}
-use Rattle.rpm_change.specs.inner.Owing.{list_settled, list_stopped, list_unsettled, owing_begun}
+use Rattle.rpm_change.specs.laws.Owing.{list_durable, list_stopped, list_unsettled, owing_begun}
 use Rattle.rpm_change.proofs.rebuilding.drop_all.Goals as goal
 
 pub drop_each-requires : goal.drop_each-requires
@@ -18,8 +18,8 @@ pub returns-clause-went : goal.returns-clause-went
 returns-clause-went g c =
     let b = c.begin-batch.ensures in
     let f = c.in_ok-finish.ensures in
-    list_settled g.D.Disk c.requires.ready b.goes b.order b.sealed b.none (λ told. told) g.met.D.Disk.follows_trans c.finish.new.db
-    (rw b.same at c.in_ok-tally.ensures.went) f.left.indexed f.runs f.cause.later f.store f.packages f.settled f.whole
+    list_durable g.D.Disk c.requires.ready b.goes b.order b.sealed b.none (λ told. told) g.met.D.Disk.follows_trans c.finish.new.db
+    (rw b.same at c.in_ok-tally.ensures.went) f.left.indexed f.runs f.cause.later f.store f.packages f.has_rows f.whole
 
 pub returns-in_err-finish-clause-went : goal.returns-in_err-finish-clause-went
 returns-in_err-finish-clause-went g c =

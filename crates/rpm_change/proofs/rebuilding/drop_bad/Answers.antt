@@ -1,6 +1,6 @@
 use Rattle.std.proofs.Common.{[], ◌∷◌, Err, refl, ◌∙◌}
-use Rattle.rpm_change.proofs.Vocabulary.{Bad, bearer, dropped, dropped_line, Erase, err_is, none_by, out_gone, stopped_went, told_all, told_none, told_part}
-use Rattle.rpm_change.specs.inner.Owing.{owing_none}
+use Rattle.rpm_change.proofs.Vocabulary.{Bad, bearer, dropped_course, dropped_line, Erase, err_is, none_by, out_gone, stopped_went, told_all, told_none, told_part}
+use Rattle.rpm_change.specs.laws.Owing.{owing_none}
 use Rattle.rpm_effects.specs.declared.tally.Halt.TheVariants as halt
 use Rattle.rpm_change.proofs.rebuilding.drop_bad.Goals as goal
 
@@ -25,7 +25,7 @@ returns-in_err-tally-clause-went g c =
 
 pub returns-in_err-line-clause-went : goal.returns-in_err-line-clause-went
 returns-in_err-line-clause-went g c =
-    let course = dropped c.args.number Bad in
+    let course = dropped_course c.args.number Bad in
     rw (err_is c.from_residual.result c.from_residual.ensures)
     (stopped_went g.D.Disk course halt.NoMemory (λ s t. out_gone g.O.Sink c.args.out.now course) (λ i. refl) tt
     (none_by g.D.Disk g.met.D.Disk.follows_refl _ (owing_none g.D.Disk c.requires.gathering) c.args.disk.now c.args.db.now

@@ -1,5 +1,5 @@
 use Rattle.std.proofs.Common.{true}
-use Rattle.rpm_change.proofs.Vocabulary.{err_is, makes_small, out_refused, reached_anew, rebuild, remade_log, remade_then, room, state_in}
+use Rattle.rpm_change.proofs.Vocabulary.{err_is, makes_small, out_refused, reached_anew, rebuild, remade_log, remade_then, store_of, state_in}
 use Rattle.rpm_change.proofs.Rebuilt.{remade_limits, told_ok}
 use Rattle.rpm_change.proofs.rebuilding.rebuild.Goals as goal
 
@@ -7,7 +7,7 @@ pub returns-clause-limits : goal.returns-clause-limits
 returns-clause-limits g c = λ told.
     let said = c.in_ok-rebuild.ensures in
     let s = state_in g.D.Disk c.args.disk.now c.args.db.now in
-    rw (makes_small true s (room c.args.db.now) (rebuild s).changes (λ is. (said.rebuilt told).0))
+    rw (makes_small true s (store_of c.args.db.now) (rebuild s).changes (λ is. (said.rebuilt told).0))
     (remade_limits g.D.Disk c.args.db.now said.runs.reads_as said.still.store (λ told. (said.rebuilt told).3) c.drop_all.ensures.went told).first
 
 pub returns-clause-stores : goal.returns-clause-stores
@@ -19,7 +19,8 @@ returns-clause-stores g c =
 pub returns-clause-reach : goal.returns-clause-reach
 returns-clause-reach g c =
     let said = c.in_ok-rebuild.ensures in
-    told_ok c.drop_all.result (λ told. reached_anew (state_in g.D.Disk c.args.disk.now c.args.db.now) (room c.args.db.now) _ (g.D.Disk.files c.args.disk.now)
+    told_ok c.drop_all.result (λ told. reached_anew (state_in g.D.Disk c.args.disk.now c.args.db.now) (store_of c.args.db.now) _
+    (g.D.Disk.files c.args.disk.now)
     (g.D.Disk.files c.rebuild.new.disk) (g.D.Disk.files c.drop_all.new.disk) (said.runs.reads_as told).pkg (said.renewed.reach told))
     (λ told. (remade_limits g.D.Disk c.args.db.now said.runs.reads_as said.still.store (λ told. (said.rebuilt told).3) c.drop_all.ensures.went
     told).reached)

@@ -1,11 +1,11 @@
 use Rattle.std.proofs.Common.{ℕ, Option, Some, None}
-use Rattle.rpm_change.proofs.Vocabulary.{Database, err_is, err_stopped, IsHeld, suspended}
+use Rattle.rpm_change.proofs.Vocabulary.{Database, err_is, err_stopped, HasTarget, suspended_database}
 use Rattle.rpm_change.proofs.Erased.{erasing_puts, kind_of_index}
-use Rattle.rpm_change.specs.inner.Owing.{list_settled, list_stopped, list_unsettled, owing_begun}
+use Rattle.rpm_change.specs.laws.Owing.{list_durable, list_stopped, list_unsettled, owing_begun}
 use Rattle.rpm_change.proofs.replace.put_alone.Goals as goal
 
 -- a package that is there is there while a batch goes on
-held_on : (number : Option ℕ) (db : Database) → IsHeld number db → IsHeld number (suspended db)
+held_on : (number : Option ℕ) (db : Database) → HasTarget number db → HasTarget number (suspended_database db)
 held_on None db held = tt
 held_on (Some n) db held = held
 
@@ -29,8 +29,8 @@ pub returns-clause-went : goal.returns-clause-went
 returns-clause-went g c =
     let b = c.begin-batch.ensures in
     let f = c.in_ok-finish.ensures in
-    list_settled g.D.Disk c.requires.ready b.goes b.order b.sealed b.none (λ both. both.0) g.met.D.Disk.follows_trans c.finish.new.db
-    (rw b.same at (c.in_ok-tally.ensures.went 0)) f.left.indexed f.runs f.cause.later f.store f.packages f.settled f.whole
+    list_durable g.D.Disk c.requires.ready b.goes b.order b.sealed b.none (λ both. both.0) g.met.D.Disk.follows_trans c.finish.new.db
+    (rw b.same at (c.in_ok-tally.ensures.went 0)) f.left.indexed f.runs f.cause.later f.store f.packages f.has_rows f.whole
 
 pub returns-in_err-finish-clause-went : goal.returns-in_err-finish-clause-went
 returns-in_err-finish-clause-went g c =

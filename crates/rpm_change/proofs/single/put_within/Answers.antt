@@ -1,5 +1,5 @@
 use Rattle.std.proofs.Common.{◌≡◌, refl, sym, ◌∙◌}
-use Rattle.rpm_change.proofs.Vocabulary.{Add, add_fault, err_is, next-state, Put, put_fault, read_again, resumed, room, state_in}
+use Rattle.rpm_change.proofs.Vocabulary.{Add, add_fault, err_is, next-state, Put, put_fault, read_again, resumed_database, store_of, state_in}
 use Rattle.rpm_change.proofs.Gathered.{gathered_one, ungathered_one}
 use Rattle.rpm_change.proofs.single.put_within.Goals as goal
 
@@ -10,7 +10,7 @@ pub returns-in_ok-add_view-in-None : goal.returns-in_ok-add_view-in-None
 returns-in_ok-add_view-in-None g c =
     let done = c.in_ok-add_view-in-None.ensures in
     let same : c.of_checked-view.result ≡ read_again c.args.blob.now = cc in
-    let law = next-state (g.D.Disk.files c.args.disk.now).pkg (room c.args.db.now) in
+    let law = next-state (g.D.Disk.files c.args.disk.now).pkg (store_of c.args.db.now) in
     rw c.in-None.is (gathered_one g.D.Disk (Add c.args.blob.now) done.runs _ (rw same at done.gathers) done.left.indexed
     (λ is. done.causes.0 (sym law ∙ is)) done.causes.1.later.0 done.end done.index done.cause.later)
 
@@ -22,11 +22,11 @@ returns-in_err-add_view-in-None g c =
     let db = c.args.db.now in
     let same : view ≡ read_again blob = cc in
     let f = c.in_err-add_view-in-None.field-0.0 in
-    let law = next-state (g.D.Disk.files c.args.disk.now).pkg (room db) in
+    let law = next-state (g.D.Disk.files c.args.disk.now).pkg (store_of db) in
     let gathers = rw same at said.gathers in
     rw (c.in-None.is, err_is c.from_residual.result c.from_residual.ensures)
     (ungathered_one g.D.Disk (Add blob) said.runs f gathers said.left
-    (λ i full. add_fault i _ (resumed db) (state_in g.D.Disk c.args.disk.now db) view.blob blob f law said.causes gathers.room full) refl refl
+    (λ i full. add_fault i _ (resumed_database db) (state_in g.D.Disk c.args.disk.now db) view.blob blob f law said.causes gathers.room full) refl refl
     said.whole said.cause (λ is. cc))
 
 pub returns-in_ok-replace_view-in-Some : goal.returns-in_ok-replace_view-in-Some
@@ -48,5 +48,5 @@ returns-in_err-replace_view-in-Some g c =
     let gathers = rw same at said.gathers in
     rw (c.in-Some.is, err_is c.from_residual-in_err-replace_view-in-Some.result c.from_residual-in_err-replace_view-in-Some.ensures)
     (ungathered_one g.D.Disk (Put n blob) said.runs f gathers said.left
-    (λ i full. put_fault i _ (resumed db) (state_in g.D.Disk c.args.disk.now db) n view.blob blob f said.causes gathers.room full) refl refl
+    (λ i full. put_fault i _ (resumed_database db) (state_in g.D.Disk c.args.disk.now db) n view.blob blob f said.causes gathers.room full) refl refl
     said.whole said.cause (λ is. cc))

@@ -1,5 +1,5 @@
 use Rattle.std.proofs.Common.{refl, arith}
-use Rattle.rpm_change.proofs.Vocabulary.{Erase, erase_fault, err_is, resumed, state_in}
+use Rattle.rpm_change.proofs.Vocabulary.{Erase, erase_fault, err_is, resumed_database, state_in}
 use Rattle.rpm_change.proofs.Erased.{erasing_whole}
 use Rattle.rpm_change.proofs.Gathered.{gathered_one, ungathered_one}
 use Rattle.rpm_change.proofs.single.take_within.Goals as goal
@@ -18,5 +18,5 @@ returns-in_err-erase g c =
     let f = c.in_err-erase.field-0.0 in
     rw (err_is c.from_residual.result c.from_residual.ensures)
     (ungathered_one g.D.Disk (Erase n) said.runs f said.gathers said.left
-    (λ i full. erase_fault i (resumed db) (state_in g.D.Disk c.args.disk.now db) n f said.causes full) refl refl
+    (λ i full. erase_fault i (resumed_database db) (state_in g.D.Disk c.args.disk.now db) n f said.causes full) refl refl
     (λ told whole. erasing_whole f said.kinds) said.cause (λ is. cc))

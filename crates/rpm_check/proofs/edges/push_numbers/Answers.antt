@@ -2,7 +2,7 @@ use Rattle.std.proofs.Common.{◌≡◌, ℕ, ◌+◌, ◌<◌, ◌≤◌, ◌++
 use Rattle.std.specs.Prelude.{All}
 use Rattle.std.proofs.lemmas.List.{drop_all}
 use Rattle.std.proofs.lemmas.List.Elements.{All-nil, All-same}
-use Rattle.rpm_check.proofs.Vocabulary.{Network, Node, numbers_of}
+use Rattle.rpm_check.proofs.Vocabulary.{Network, Node, node_numbers}
 use Rattle.rpm_check.proofs.Gathering.{IsBelowFrom, numbers_behind, numbers_below, numbers_told}
 use Rattle.rpm_check.proofs.edges.push_numbers.Goals as goal
 
@@ -12,7 +12,7 @@ loop-node-init c =
     record {
       edges = refl;
       below = All-same (IsBelowFrom nodes 0) c.args.graph.now.numbers [] c.requires.none (All-nil (IsBelowFrom nodes 0));
-      told = ap (λ (ns : List ℕ). ns ++ numbers_of nodes) c.requires.none;
+      told = ap (λ (ns : List ℕ). ns ++ node_numbers nodes) c.requires.none;
     }
 
 pub push_number-requires : goal.push_number-requires
@@ -37,8 +37,8 @@ loop-node-preserved c =
       below =
           subst (All (IsBelowFrom nodes (k + 1))) (sym added) (numbers_below nodes rising k v within c.node-item.is old inv.below);
       told =
-          ap (λ (ns : List ℕ). ns ++ numbers_of (drop (k + 1) nodes)) added
-          ∙ numbers_told nodes rising k v within c.node-item.is old (numbers_of nodes) inv.told;
+          ap (λ (ns : List ℕ). ns ++ node_numbers (drop (k + 1) nodes)) added
+          ∙ numbers_told nodes rising k v within c.node-item.is old (node_numbers nodes) inv.told;
     }
 
 pub returns-clause-told : goal.returns-clause-told
@@ -47,4 +47,4 @@ returns-clause-told c =
     let k = c.loop-node.node-index in
     let old = c.loop-node.graph.numbers in
     let over : length nodes ≤ k = omega arith in
-    sym (append-nil old) ∙ ap (λ (vs : List Node). old ++ numbers_of vs) (sym (drop_all k nodes over)) ∙ c.loop-node.invariant.told
+    sym (append-nil old) ∙ ap (λ (vs : List Node). old ++ node_numbers vs) (sym (drop_all k nodes over)) ∙ c.loop-node.invariant.told

@@ -1,4 +1,4 @@
-use Rattle.rpm_check.proofs.Vocabulary.{flat_map, givers, is_in, needs_at, packages, room}
+use Rattle.rpm_check.proofs.Vocabulary.{flat_map, givers, is_in, needs_at, packages, store_of}
 use Rattle.std.proofs.Common.{◌++◌, ℕ, List, Ok, sym, ap, ◌∙◌}
 use Rattle.rpm_check.proofs.Asking.{asking_of, asks_ended, asks_failed}
 use Rattle.std.specs.FinMap as finite
@@ -9,7 +9,7 @@ returns-then-good-clause-good g c = λ told. sym c.if-good.true ∙ c.in_ok-good
 
 pub returns-then-good-clause-told : goal.returns-then-good-clause-told
 returns-then-good-clause-told g c = λ told has m.
-    let all = packages (g.D.Disk.files c.args.disk.now).pkg (room c.args.db.now) in
+    let all = packages (g.D.Disk.files c.args.disk.now).pkg (store_of c.args.db.now) in
     let given = flat_map (givers all) (needs_at (finite.get all c.args.number)) in
     c.each_once.ensures.same m
     ∙ ap (is_in m) (c.in_ok-good.ensures.told told has ∙ ap (λ (ms : List ℕ). ms ++ given) c.new-ends.ensures.items)

@@ -1,6 +1,6 @@
 use Rattle.std.proofs.Common.{◌≡◌, ◌++◌, List, Ok, sym, ap, ◌∙◌, append-nil}
 use Rattle.std.specs.FinMap as finite
-use Rattle.rpm_check.proofs.Vocabulary.{flat_map, givers, KnowsGivers, Needed, packages, required, room}
+use Rattle.rpm_check.proofs.Vocabulary.{flat_map, givers, KnowsGivers, Need, packages, requirements, store_of}
 use Rattle.rpm_check.proofs.Heading.{needs_none, needs_some}
 use Rattle.rpm_check.proofs.Asking.{asking_of, asking_then, asks_ended, asks_failed, asks_then, known_back, known_here}
 use Rattle.rpm_check.proofs.ends.push_ends_of.Goals as goal
@@ -20,23 +20,23 @@ returns-in-None-clause-good g c = rw c.in-None.is at c.in_ok-view.ensures.good
 
 pub returns-in-None-clause-told : goal.returns-in-None-clause-told
 returns-in-None-clause-told g c = λ told has.
-    let all = packages (g.D.Disk.files c.args.disk.now).pkg (room c.args.db.now) in
+    let all = packages (g.D.Disk.files c.args.disk.now).pkg (store_of c.args.db.now) in
     let none = needs_none (finite.get all c.args.number) (sym ((rw c.in-None.is at c.in_ok-view.ensures.told) told)) in
     let old = c.args.ends.now.items in
-    sym (append-nil old) ∙ ap (λ (needs : List Needed). old ++ flat_map (givers all) needs) (sym none)
+    sym (append-nil old) ∙ ap (λ (needs : List Need). old ++ flat_map (givers all) needs) (sym none)
 
 pub returns-in_ok-push_ends-in-Some-clause-good : goal.returns-in_ok-push_ends-in-Some-clause-good
 returns-in_ok-push_ends-in-Some-clause-good g c = rw c.in-Some.is at c.in_ok-view.ensures.good
 
 pub returns-in_ok-push_ends-in-Some-clause-told : goal.returns-in_ok-push_ends-in-Some-clause-told
 returns-in_ok-push_ends-in-Some-clause-told g c = λ told has.
-    let all = packages (g.D.Disk.files c.args.disk.now).pkg (room c.args.db.now) in
+    let all = packages (g.D.Disk.files c.args.disk.now).pkg (store_of c.args.db.now) in
     let view = c.in-Some.view in
     let some = needs_some (finite.get all c.args.number) view (sym ((rw c.in-Some.is at c.in_ok-view.ensures.told) told)) in
     let old = c.args.ends.now.items in
-    known_back g.D.Disk (λ all. c.push_ends.new.ends.items ≡ old ++ flat_map (givers all) (required view)) (asking_of g.D.Disk c.in_ok-view.ensures.asks)
+    known_back g.D.Disk (λ all. c.push_ends.new.ends.items ≡ old ++ flat_map (givers all) (requirements view)) (asking_of g.D.Disk c.in_ok-view.ensures.asks)
     c.in_ok-push_ends-in-Some.ensures.told told has
-    ∙ ap (λ (needs : List Needed). old ++ flat_map (givers all) needs) (sym some)
+    ∙ ap (λ (needs : List Need). old ++ flat_map (givers all) needs) (sym some)
 
 pub returns-in_err-push_ends-in-Some-clause-remembered : goal.returns-in_err-push_ends-in-Some-clause-remembered
 returns-in_err-push_ends-in-Some-clause-remembered g c =

@@ -1,11 +1,11 @@
-use Rattle.rpm_check.proofs.Vocabulary.{givers, packages, room}
+use Rattle.rpm_check.proofs.Vocabulary.{givers, packages, store_of}
 use Rattle.std.proofs.Common.{ℕ, ◌++◌, List, Ok, sym, ap, ◌∙◌}
 use Rattle.rpm_check.proofs.ends.push_givers.Goals as goal
 use Rattle.rpm_check.proofs.Asking.{asking_none, asking_of, asks_ended, asks_failed, asks_memory, done_more}
 
 pub returns-in-Some-clause-told : goal.returns-in-Some-clause-told
 returns-in-Some-clause-told g c =
-    let all = packages (g.D.Disk.files c.args.disk.now).pkg (room c.args.db.now) in
+    let all = packages (g.D.Disk.files c.args.disk.now).pkg (store_of c.args.db.now) in
     let old = c.args.ends.now.items in
     done_more c.push_all.result _ _ (λ is told has.
     is ∙ ap (λ (ms : List ℕ). old ++ ms) (c.deref.ensures.value ∙ c.in-Some.ensures all (c.requires.remembers told has) ∙ ap (givers all) c.in_ok-key.ensures))
@@ -33,7 +33,7 @@ returns-in_err-push_all-clause-remembered g c = λ told has.
 
 pub returns-in_err-put-clause-remembered : goal.returns-in_err-put-clause-remembered
 returns-in_err-put-clause-remembered g c = λ told has.
-    let all = packages (g.D.Disk.files c.args.disk.now).pkg (room c.args.db.now) in
+    let all = packages (g.D.Disk.files c.args.disk.now).pkg (store_of c.args.db.now) in
     let knows = c.requires.remembers told has in
     let found = c.in_ok-found.ensures in
     c.in_err-put.ensures all (record { numbers = knows.numbers; sources = found.knows told has knows.sources })
@@ -41,7 +41,7 @@ returns-in_err-put-clause-remembered g c = λ told has.
 
 pub returns-clause-remembered : goal.returns-clause-remembered
 returns-clause-remembered g c = λ told has.
-    let all = packages (g.D.Disk.files c.args.disk.now).pkg (room c.args.db.now) in
+    let all = packages (g.D.Disk.files c.args.disk.now).pkg (store_of c.args.db.now) in
     let knows = c.requires.remembers told has in
     let found = c.in_ok-found.ensures in
     c.in_ok-put.ensures all (record { numbers = knows.numbers; sources = found.knows told has knows.sources })

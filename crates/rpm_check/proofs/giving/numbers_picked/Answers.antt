@@ -1,4 +1,4 @@
-use Rattle.rpm_check.proofs.Vocabulary.{above, Files, keys_asked, NextNumberIs, packages, picks, Recalls, room, Serves}
+use Rattle.rpm_check.proofs.Vocabulary.{above, Files, keys_asked, NextNumberIs, packages, picks, Recalls, store_of, Serves}
 use Rattle.std.proofs.Common.{◌≡◌, ℕ, List, ◌++◌, Option, Some, None, Ok, ap, subst}
 use Rattle.std.proofs.lemmas.Result.{err_from_is_err_and}
 use Rattle.rpm_check.proofs.Above.{numbers_above}
@@ -19,7 +19,7 @@ loop-numbers-init g c =
       asking = asking_picker g.D.Disk c.requires.asked c.in_ok-picker.ensures.asks;
       recalls = λ told holds. holds;
       told = λ told has holds.
-          ap (λ (ns : List ℕ). ns ++ numbers_above (packages (g.D.Disk.files c.args.disk.now).pkg (room db)) c.args.selection.now 0)
+          ap (λ (ns : List ℕ). ns ++ numbers_above (packages (g.D.Disk.files c.args.disk.now).pkg (store_of db)) c.args.selection.now 0)
           c.new-numbers.ensures.items;
     }
 
@@ -38,9 +38,9 @@ loop-numbers-preserved g c =
           told_back g.D.Disk (λ all. Recalls all c.loop-numbers.recent → Recalls all c.next_number_after.new.recent) inv.asking done.recalls told
           (inv.recalls told holds);
       told = λ told has holds.
-          let all = packages (g.D.Disk.files c.args.disk.now).pkg (room db) in
-          let next = subst (λ (f : Files). Serves picker (packages f.pkg (room db)) sel → Recalls (packages f.pkg (room db)) c.loop-numbers.recent
-          → NextNumberIs (above n (picks (packages f.pkg (room db)) sel)) (Ok c.in_ok-next.field-0)) (inv.asking.looks.untouched told).same (done.told told)
+          let all = packages (g.D.Disk.files c.args.disk.now).pkg (store_of db) in
+          let next = subst (λ (f : Files). Serves picker (packages f.pkg (store_of db)) sel → Recalls (packages f.pkg (store_of db)) c.loop-numbers.recent
+          → NextNumberIs (above n (picks (packages f.pkg (store_of db)) sel)) (Ok c.in_ok-next.field-0)) (inv.asking.looks.untouched told).same (done.told told)
           (c.in_ok-picker.ensures.serves told has) (inv.recalls told holds) in
           gained all sel n c.in-Some.next c.loop-numbers.numbers.items c.push.new.self.items (numbers_above all sel 0)
           (subst (λ (o : Option ℕ). NextNumberIs (above n (picks all sel)) (Ok o)) is next) c.in_ok-push.ensures.items (inv.told told has holds);
@@ -55,11 +55,11 @@ returns-clause-told g c = λ told has holds.
     let picker = c.in_ok-picker.picker in
     let pkg = (g.D.Disk.files c.args.disk.now).pkg in
     let is : c.in_ok-next.field-0 ≡ None = cc in
-    let none = subst (λ (f : Files). Serves picker (packages f.pkg (room db)) sel → Recalls (packages f.pkg (room db)) c.loop-numbers.recent
-    → NextNumberIs (above n (picks (packages f.pkg (room db)) sel)) (Ok c.in_ok-next.field-0)) (inv.asking.looks.untouched told).same
+    let none = subst (λ (f : Files). Serves picker (packages f.pkg (store_of db)) sel → Recalls (packages f.pkg (store_of db)) c.loop-numbers.recent
+    → NextNumberIs (above n (picks (packages f.pkg (store_of db)) sel)) (Ok c.in_ok-next.field-0)) (inv.asking.looks.untouched told).same
     (c.in_ok-next.ensures.told told) (c.in_ok-picker.ensures.serves told has) (inv.recalls told holds) in
     all_picked pkg db sel n c.loop-numbers.numbers.items (c.requires.asked.keeps told)
-    (subst (λ (o : Option ℕ). NextNumberIs (above n (picks (packages pkg (room db)) sel)) (Ok o)) is none) (inv.told told has holds)
+    (subst (λ (o : Option ℕ). NextNumberIs (above n (picks (packages pkg (store_of db)) sel)) (Ok o)) is none) (inv.told told has holds)
 
 pub returns-clause-recalls : goal.returns-clause-recalls
 returns-clause-recalls g c = λ told holds.

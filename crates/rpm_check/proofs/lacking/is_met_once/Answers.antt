@@ -1,11 +1,11 @@
-use Rattle.rpm_check.proofs.Vocabulary.{is_met, packages, room}
+use Rattle.rpm_check.proofs.Vocabulary.{is_met, packages, store_of}
 use Rattle.std.proofs.Common.{Ok, sym, ap, ◌∙◌}
 use Rattle.rpm_check.proofs.Asking.{asking_none, asking_of, asks_ended, asks_memory}
 use Rattle.rpm_check.proofs.lacking.is_met_once.Goals as goal
 
 pub returns-in-Some-clause-told : goal.returns-in-Some-clause-told
 returns-in-Some-clause-told g c = λ told has.
-    let all = packages (g.D.Disk.files c.args.disk.now).pkg (room c.args.db.now) in
+    let all = packages (g.D.Disk.files c.args.disk.now).pkg (store_of c.args.db.now) in
     c.in-Some.ensures all (c.requires.remembers told has) ∙ ap (is_met all) c.in_ok-key.ensures
 
 pub returns-in_err-found-clause-remembered : goal.returns-in_err-found-clause-remembered
@@ -15,7 +15,7 @@ returns-in_err-found-clause-remembered g c = λ told has.
 
 pub returns-in_err-put-clause-remembered : goal.returns-in_err-put-clause-remembered
 returns-in_err-put-clause-remembered g c = λ told has.
-    let all = packages (g.D.Disk.files c.args.disk.now).pkg (room c.args.db.now) in
+    let all = packages (g.D.Disk.files c.args.disk.now).pkg (store_of c.args.db.now) in
     let knows = c.requires.remembers told has in
     let found = c.in_ok-found.ensures in
     c.in_err-put.ensures all (record { answers = knows.answers; sources = found.knows told has knows.sources })
@@ -23,7 +23,7 @@ returns-in_err-put-clause-remembered g c = λ told has.
 
 pub returns-clause-remembered : goal.returns-clause-remembered
 returns-clause-remembered g c = λ told has.
-    let all = packages (g.D.Disk.files c.args.disk.now).pkg (room c.args.db.now) in
+    let all = packages (g.D.Disk.files c.args.disk.now).pkg (store_of c.args.db.now) in
     let knows = c.requires.remembers told has in
     let found = c.in_ok-found.ensures in
     c.in_ok-put.ensures all (record { answers = knows.answers; sources = found.knows told has knows.sources })

@@ -1,4 +1,4 @@
-use Rattle.rpm_check.proofs.Vocabulary.{above, Files, from_one, is_some_of, keys_asked, NextNumberIs, packages, picks, picks_from_one, Recalls, room, Serves}
+use Rattle.rpm_check.proofs.Vocabulary.{above, Files, from_one, is_some_of, keys_asked, NextNumberIs, packages, picks, picks_from_one, Recalls, store_of, Serves}
 use Rattle.std.proofs.Common.{Ok, ap, ◌∙◌, subst}
 use Rattle.std.proofs.lemmas.Result.{err_from_is_err_and}
 use Rattle.rpm_check.proofs.Picking.{is_some_next}
@@ -18,17 +18,17 @@ returns-clause-told g c = λ told has holds.
     let picker = c.in_ok-picker.picker in
     let picked = c.in_ok-picked.picked in
     let pkg = (g.D.Disk.files c.args.disk.now).pkg in
-    let next = subst (λ (f : Files). Serves picker (packages f.pkg (room db)) sel
-    → Recalls (packages f.pkg (room db)) c.args.recent.now → NextNumberIs (above 0 (picks (packages f.pkg (room db)) sel)) (Ok picked))
+    let next = subst (λ (f : Files). Serves picker (packages f.pkg (store_of db)) sel
+    → Recalls (packages f.pkg (store_of db)) c.args.recent.now → NextNumberIs (above 0 (picks (packages f.pkg (store_of db)) sel)) (Ok picked))
     (c.in_ok-picker.ensures.asks.looks.untouched told).same
     (c.in_ok-picked.ensures.told told) in
-    c.is_some.ensures ∙ is_some_next (above 0 (picks (packages pkg (room db)) sel)) picked (next (c.in_ok-picker.ensures.serves told has) holds)
+    c.is_some.ensures ∙ is_some_next (above 0 (picks (packages pkg (store_of db)) sel)) picked (next (c.in_ok-picker.ensures.serves told has) holds)
     ∙ ap is_some_of (picks_from_one pkg db sel (from_one pkg db (c.requires.asked.keeps told)))
 
 pub returns-clause-recalls : goal.returns-clause-recalls
 returns-clause-recalls g c = λ told holds.
     let db = c.args.db.now in
-    subst (λ (f : Files). Recalls (packages f.pkg (room db)) c.args.recent.now → Recalls (packages f.pkg (room db)) c.next_number_after.new.recent)
+    subst (λ (f : Files). Recalls (packages f.pkg (store_of db)) c.args.recent.now → Recalls (packages f.pkg (store_of db)) c.next_number_after.new.recent)
     (c.in_ok-picker.ensures.asks.looks.untouched told).same (c.in_ok-picked.ensures.recalls told) holds
 
 pub returns-in_err-picked-clause-asks : goal.returns-in_err-picked-clause-asks

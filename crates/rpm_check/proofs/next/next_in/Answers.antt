@@ -1,4 +1,4 @@
-use Rattle.rpm_check.proofs.Vocabulary.{Files, HasIndexRows, header_at, is_above, IsFirst, Knows, lacks, packages, required, room, Unmet, unmet_in}
+use Rattle.rpm_check.proofs.Vocabulary.{Files, HasIndexRows, header_at, is_above_pair, IsFirst, Knows, lacks, packages, requirements, store_of, Unmet, unmet_in}
 use Rattle.std.proofs.Common.{◌≡◌, Some, Ok, sym, ap, subst}
 use Rattle.std.specs.Prelude.{filter, List}
 use Rattle.std.specs.FinMap as finite
@@ -8,14 +8,14 @@ use Rattle.rpm_check.proofs.next.next_in.Goals as goal
 
 pub returns-in-Some-clause-told : goal.returns-in-Some-clause-told
 returns-in-Some-clause-told g c =
-    let store = (room c.args.db.now) in
+    let store = (store_of c.args.db.now) in
     let number = c.args.number in
     let view = c.in-Some.view in
     let all = packages (g.D.Disk.files c.args.disk.now).pkg store in
-    let above = is_above c.args.n c.args.i in
+    let above = is_above_pair c.args.n c.args.i in
     told_more c.next_lacking.result _ _ (λ next said told has.
     let first = subst (λ (f : Files). HasIndexRows c.args.db.now f.pkg f.idx
-    → IsFirst (filter above (unmet_in (lacks (packages f.pkg store)) number (required view) 0)) next)
+    → IsFirst (filter above (unmet_in (lacks (packages f.pkg store)) number (requirements view) 0)) next)
     (c.in_ok-view.ensures.asks.looks.untouched told).same (said told) has in
     let is : header_at (finite.get all number) ≡ Some view = sym ((rw c.in-Some.is at c.in_ok-view.ensures.told) told) in
     subst (λ (us : List Unmet). IsFirst (filter above us) next) (sym (unmet_some (lacks all) number (finite.get all number) view is)) first)
@@ -23,8 +23,8 @@ returns-in-Some-clause-told g c =
 
 pub returns-in-None-clause-told : goal.returns-in-None-clause-told
 returns-in-None-clause-told g c = λ told has.
-    let all = packages (g.D.Disk.files c.args.disk.now).pkg (room c.args.db.now) in
-    ap (filter (is_above c.args.n c.args.i)) (unmet_none (lacks all) c.args.number (finite.get all c.args.number)
+    let all = packages (g.D.Disk.files c.args.disk.now).pkg (store_of c.args.db.now) in
+    ap (filter (is_above_pair c.args.n c.args.i)) (unmet_none (lacks all) c.args.number (finite.get all c.args.number)
     (sym ((rw c.in-None.is at c.in_ok-view.ensures.told) told)))
 
 pub next_lacking-requires-clause-remembers : goal.next_lacking-requires-clause-remembers

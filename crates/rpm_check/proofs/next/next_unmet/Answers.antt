@@ -1,4 +1,4 @@
-use Rattle.rpm_check.proofs.Vocabulary.{is_above, IsFirst, Knows, lacks, packages, room, unmet_at}
+use Rattle.rpm_check.proofs.Vocabulary.{is_above_pair, IsFirst, Knows, lacks, packages, store_of, unmet_at}
 use Rattle.std.proofs.Common.{Ok, sym, ap, ◌∙◌}
 use Rattle.std.specs.Prelude.{filter}
 use Rattle.std.specs.FinMap as finite
@@ -12,9 +12,9 @@ loop-number-init g c =
     let pkg = (g.D.Disk.files c.args.disk.now).pkg in
     record {
       asking = asking_none g.D.Disk g.met.D.Disk.follows_refl c.args.disk.now c.args.db.now c.requires.asked;
-      remembers = λ told has. c.new-memo.ensures (packages pkg (room c.args.db.now));
+      remembers = λ told has. c.new-memo.ensures (packages pkg (store_of c.args.db.now));
       told = λ told has. after_from pkg c.args.db.now c.args.n c.args.i (c.requires.asked.keeps told)
-          ∙ ap (turns_above (packages pkg (room c.args.db.now)) (after_in (packages pkg (room c.args.db.now)) c.args.n c.args.i))
+          ∙ ap (turns_above (packages pkg (store_of c.args.db.now)) (after_in (packages pkg (store_of c.args.db.now)) c.args.n c.args.i))
           (sym c.saturating_sub-passed.ensures);
     }
 
@@ -31,8 +31,8 @@ loop-number-preserved g c =
       remembers = known_back g.D.Disk (λ all. Knows all c.next_in.new.memo) inv.asking done.remembered;
       told = λ told has.
           let pkg = (g.D.Disk.files c.args.disk.now).pkg in
-          let all = packages pkg (room db) in
-          let here = known_back g.D.Disk (λ all. IsFirst (filter (is_above n i) (unmet_at (lacks all) number (finite.get all number)))
+          let all = packages pkg (store_of db) in
+          let here = known_back g.D.Disk (λ all. IsFirst (filter (is_above_pair n i) (unmet_at (lacks all) number (finite.get all number)))
           c.in_ok-found.found) inv.asking done.told told has in
           none_here all n i c.loop-number.passed number c.in_ok-found.found (c.in-Some.ensures.told pkg) (inv.told told has) here
           (sym c.is_some.ensures ∙ c.if-is_some.false);
@@ -46,8 +46,8 @@ returns-then-is_some-clause-told g c = λ told has.
     let n = c.args.n in
     let i = c.args.i in
     let pkg = (g.D.Disk.files c.args.disk.now).pkg in
-    let all = packages pkg (room db) in
-    let here = known_back g.D.Disk (λ all. IsFirst (filter (is_above n i) (unmet_at (lacks all) number (finite.get all number))) c.in_ok-found.found)
+    let all = packages pkg (store_of db) in
+    let here = known_back g.D.Disk (λ all. IsFirst (filter (is_above_pair n i) (unmet_at (lacks all) number (finite.get all number))) c.in_ok-found.found)
     inv.asking c.in_ok-found.ensures.told told has in
     found_here all n i c.loop-number.passed number c.in_ok-found.found (c.in-Some.ensures.told pkg) (inv.told told has) here
     (sym c.is_some.ensures ∙ c.if-is_some.true)
@@ -55,7 +55,7 @@ returns-then-is_some-clause-told g c = λ told has.
 pub returns-clause-told : goal.returns-clause-told
 returns-clause-told g c = λ told has.
     let pkg = (g.D.Disk.files c.args.disk.now).pkg in
-    none_later (packages pkg (room c.args.db.now)) c.args.n c.args.i c.loop-number.passed (c.in_default.ensures.told pkg) (c.loop-number.invariant.told told
+    none_later (packages pkg (store_of c.args.db.now)) c.args.n c.args.i c.loop-number.passed (c.in_default.ensures.told pkg) (c.loop-number.invariant.told told
     has)
 
 pub next_in-requires-clause-remembers : goal.next_in-requires-clause-remembers

@@ -1,5 +1,5 @@
-use Rattle.rpm_check.proofs.Vocabulary.{AreRising, Edge, edges_of, flat_map, givers, good_if, good_numbers, is_in, IsStrictlyIncreasing, needs_at, Node}
-use Rattle.rpm_check.proofs.Vocabulary.{NoMemory, numbers_of, packages, room}
+use Rattle.rpm_check.proofs.Vocabulary.{AreNodesRising, Edge, edges_of, flat_map, givers, good_if, good_numbers, is_in, IsStrictlyIncreasing, needs_at, Node}
+use Rattle.rpm_check.proofs.Vocabulary.{NoMemory, node_numbers, packages, store_of}
 use Rattle.std.proofs.Common.{◌≡◌, ℕ, ◌<◌, ◌≤◌, ◌++◌, [], ◌∷◌, Bool, List, Ok, Err, refl, sym, ap, ◌∙◌, subst, arith, append-nil}
 use Rattle.std.specs.Prelude.{All}
 use Rattle.std.specs.FinMap as finite
@@ -12,7 +12,7 @@ use Rattle.rpm_check.proofs.nodes.push_node.Goals as goal
 
 pub returns-in-Ok-None-clause-told : goal.returns-in-Ok-None-clause-told
 returns-in-Ok-None-clause-told g c = λ told has.
-    let all = packages (g.D.Disk.files c.args.disk.now).pkg (room c.args.db.now) in
+    let all = packages (g.D.Disk.files c.args.disk.now).pkg (store_of c.args.db.now) in
     let old = flat_map (edges_of (good_numbers all)) c.args.nodes.now.items in
     let none = none_from all c.args.number ((rw c.in-Ok-None.field-0-is at c.in-Ok-None.ensures.good) told) in
     sym (append-nil old) ∙ ap (λ (es : List Edge). old ++ es) (sym none)
@@ -22,11 +22,11 @@ returns-in-Err-clause-asks g c = asks_failed g.D.Disk c.in-Err.ensures.asks refl
 
 pub returns-in-Ok-None-clause-reached : goal.returns-in-Ok-None-clause-reached
 returns-in-Ok-None-clause-reached g c =
-    All-weaker (λ (n : ℕ). n < c.args.number) (λ (n : ℕ). n ≤ c.args.number) (λ n lt. omega (arith, lt)) (numbers_of c.args.nodes.now.items) c.requires.below
+    All-weaker (λ (n : ℕ). n < c.args.number) (λ (n : ℕ). n ≤ c.args.number) (λ n lt. omega (arith, lt)) (node_numbers c.args.nodes.now.items) c.requires.below
 
 pub returns-in-Ok-None-clause-numbers : goal.returns-in-Ok-None-clause-numbers
 returns-in-Ok-None-clause-numbers g c = λ told.
-    let old = numbers_of c.args.nodes.now.items in
+    let old = node_numbers c.args.nodes.now.items in
     sym (append-nil old)
     ∙ ap (λ (b : Bool). old ++ good_if b c.args.number) ((rw c.in-Ok-None.field-0-is at c.in-Ok-None.ensures.good) told)
 
@@ -38,13 +38,13 @@ returns-clause-reached g c =
       | in-Ok w ↦
           let more : c.push.new.self.items ≡ nodes ++ v ∷ [] = w.in-Ok.ensures.items in
           rw w.result-is
-          (subst (λ (vs : List Node). All (λ (n : ℕ). n ≤ c.args.number) (numbers_of vs)) (sym more) (nodes_reach nodes v c.requires.below))
+          (subst (λ (vs : List Node). All (λ (n : ℕ). n ≤ c.args.number) (node_numbers vs)) (sym more) (nodes_reach nodes v c.requires.below))
       | in-Err-push w ↦ rw w.result-is tt
     ]
 
 pub returns-clause-told : goal.returns-clause-told
 returns-clause-told g c =
-    let all = packages (g.D.Disk.files c.args.disk.now).pkg (room c.args.db.now) in
+    let all = packages (g.D.Disk.files c.args.disk.now).pkg (store_of c.args.db.now) in
     let good = good_numbers all in
     let number = c.args.number in
     let nodes = c.args.nodes.now.items in
@@ -68,7 +68,7 @@ returns-clause-rising g c =
     let v : Node = record { number = c.args.number; ends = c.in-Ok-Some.ends } in
     let rising : IsStrictlyIncreasing v.ends.items = rw c.in-Ok-Some.field-0-is at c.in-Ok-Some.ensures.rising in
     elim c.match-push.branch [
-      | in-Ok w ↦ rw w.result-is (subst AreRising (sym w.in-Ok.ensures.items) (nodes_rise nodes v c.requires.below c.requires.rising rising))
+      | in-Ok w ↦ rw w.result-is (subst AreNodesRising (sym w.in-Ok.ensures.items) (nodes_rise nodes v c.requires.below c.requires.rising rising))
       | in-Err-push w ↦ rw w.result-is tt
     ]
 
@@ -80,8 +80,8 @@ returns-clause-numbers g c =
     elim c.match-push.branch [
       | in-Ok w ↦
           rw w.result-is (λ told.
-          ap numbers_of w.in-Ok.ensures.items ∙ numbers_push nodes v
-          ∙ ap (λ (b : Bool). numbers_of nodes ++ good_if b number) ((rw c.in-Ok-Some.field-0-is at c.in-Ok-Some.ensures.good) told))
+          ap node_numbers w.in-Ok.ensures.items ∙ numbers_push nodes v
+          ∙ ap (λ (b : Bool). node_numbers nodes ++ good_if b number) ((rw c.in-Ok-Some.field-0-is at c.in-Ok-Some.ensures.good) told))
       | in-Err-push w ↦ rw w.result-is tt
     ]
 

@@ -1,5 +1,5 @@
-use Rattle.rpm_check.proofs.Vocabulary.{all_edges, AreRising, edges_from, edges_of, flat_map, good_numbers, good_of, HasIndexRows, KnowsGiversOn, numbers_of}
-use Rattle.rpm_check.proofs.Vocabulary.{packages, room}
+use Rattle.rpm_check.proofs.Vocabulary.{all_edges, AreNodesRising, edges_from, edges_of, flat_map, good_numbers, good_of, HasIndexRows, KnowsGiversOn, node_numbers}
+use Rattle.rpm_check.proofs.Vocabulary.{packages, store_of}
 use Rattle.std.proofs.Common.{◌≡◌, ◌-◌, ◌^◌, ◌≤◌, ◌++◌}
 use Rattle.std.specs.Prelude.{All, IsTrue}
 use Rattle.rpm_check.proofs.Turning.{turns_above}
@@ -10,16 +10,16 @@ abbrev pub invariant-loop-next : goal.invariant-loop-next
 invariant-loop-next g l = record {
   asking : Asking g.D.Disk l.initial.disk l.disk l.db;
   remembers : KnowsGiversOn g.D.Disk l.initial.disk l.db l.memo;
-  rising : AreRising l.nodes.items;
-  reached : All (λ n. n ≤ l.passed) (numbers_of l.nodes.items);
+  rising : AreNodesRising l.nodes.items;
+  reached : All (λ n. n ≤ l.passed) (node_numbers l.nodes.items);
   numbers : IsTrue g.D.Disk.tells
-      → numbers_of l.nodes.items ++ turns_above (packages (g.D.Disk.files l.initial.disk).pkg (room l.db)) good_of l.passed
-      ≡ good_numbers (packages (g.D.Disk.files l.initial.disk).pkg (room l.db));
+      → node_numbers l.nodes.items ++ turns_above (packages (g.D.Disk.files l.initial.disk).pkg (store_of l.db)) good_of l.passed
+      ≡ good_numbers (packages (g.D.Disk.files l.initial.disk).pkg (store_of l.db));
   told : IsTrue g.D.Disk.tells → HasIndexRows l.db (g.D.Disk.files l.initial.disk).pkg (g.D.Disk.files l.initial.disk).idx
-      → flat_map (edges_of (good_numbers (packages (g.D.Disk.files l.initial.disk).pkg (room l.db)))) l.nodes.items
-      ++ turns_above (packages (g.D.Disk.files l.initial.disk).pkg (room l.db))
-      (λ e. edges_from (packages (g.D.Disk.files l.initial.disk).pkg (room l.db)) e.0) l.passed
-      ≡ all_edges (packages (g.D.Disk.files l.initial.disk).pkg (room l.db));
+      → flat_map (edges_of (good_numbers (packages (g.D.Disk.files l.initial.disk).pkg (store_of l.db)))) l.nodes.items
+      ++ turns_above (packages (g.D.Disk.files l.initial.disk).pkg (store_of l.db))
+      (λ e. edges_from (packages (g.D.Disk.files l.initial.disk).pkg (store_of l.db)) e.0) l.passed
+      ≡ all_edges (packages (g.D.Disk.files l.initial.disk).pkg (store_of l.db));
 }
 
 abbrev pub decreases-loop-next : goal.decreases-loop-next

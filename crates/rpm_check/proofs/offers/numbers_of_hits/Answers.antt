@@ -1,12 +1,12 @@
 use Rattle.std.proofs.Common.{◌≡◌, ℕ, ◌+◌, ◌<◌, List, [], ◌∷◌, ◌++◌, Bool, true, false, cond, length, map, take, get_or, sym, ap, ◌∙◌, append-nil}
 use Rattle.std.proofs.lemmas.List.{map-append}
 use Rattle.std.proofs.lemmas.List.Elements.{filter_more}
-use Rattle.rpm_check.proofs.Vocabulary.{filter, hits, Needed, needed_in, Offer, offer_in}
+use Rattle.rpm_check.proofs.Vocabulary.{filter, hits, Need, needed_in, Offer, offer_in}
 use Rattle.rpm_check.proofs.Offering.{hits_by}
 use Rattle.rpm_check.proofs.offers.numbers_of_hits.Goals.{then-hits+in_ok-push, else-hits}
 use Rattle.rpm_check.proofs.offers.numbers_of_hits.Goals as goal
 
-module _ (need : Needed) where
+module _ (need : Need) where
   abbrev is_one : Offer → Bool
   is_one o = hits need (offer_in o)
 

@@ -1,5 +1,5 @@
-use Rattle.rpm_check.proofs.Vocabulary.{above, entry_in, Files, given, keys_asked, NextIs, offer_in, packages, picks, Reach, room, Serves}
-use Rattle.std.proofs.Common.{◌≡◌, ℕ, List, [], ◌∷◌, ◌++◌, map, Option, Some, None, Ok, ap, sym, ◌∙◌, subst}
+use Rattle.rpm_check.proofs.Vocabulary.{above, entry_in, Files, given_ranges, keys_asked, NextIs, offer_in, packages, picks, Reach, store_of, Serves}
+use Rattle.std.proofs.Common.{◌≡◌, [], ◌∷◌, ◌++◌, map, Some, None, Ok, ap, sym, ◌∙◌, subst}
 use Rattle.std.proofs.lemmas.List.{map-append}
 use Rattle.std.proofs.lemmas.Result.{err_from_is_err_and}
 use Rattle.rpm_check.proofs.Offering.{offers_above, offers_all, offers_gained}
@@ -14,7 +14,7 @@ returns-in_err-picker-clause-asks g c =
 
 pub loop-found-init : goal.loop-found-init
 loop-found-init g c =
-    let all = packages (g.D.Disk.files c.args.disk.now).pkg (room c.args.db.now) in
+    let all = packages (g.D.Disk.files c.args.disk.now).pkg (store_of c.args.db.now) in
     record {
       asking = asking_picker g.D.Disk c.requires.asked c.in_ok-picker.ensures.asks;
       serves = c.in_ok-picker.ensures.serves;
@@ -34,14 +34,14 @@ loop-found-preserved g c =
     record {
       asking = asking_next g.D.Disk g.met.D.Disk.follows_trans inv.asking done.asks;
       serves = λ told has.
-          subst (λ (r : Reach). Serves r (packages (g.D.Disk.files c.args.disk.now).pkg (room db)) sel) (sym same) (inv.serves told has);
+          subst (λ (r : Reach). Serves r (packages (g.D.Disk.files c.args.disk.now).pkg (store_of db)) sel) (sym same) (inv.serves told has);
       told = λ told has.
-          let all = packages (g.D.Disk.files c.args.disk.now).pkg (room db) in
-          let next = subst (λ (f : Files). Serves c.loop-found.picker (packages f.pkg (room db)) sel
-          → NextIs (above n (picks (packages f.pkg (room db)) sel)) (Ok c.in_ok-next.field-0)) (inv.asking.looks.untouched told).same (done.told told)
+          let all = packages (g.D.Disk.files c.args.disk.now).pkg (store_of db) in
+          let next = subst (λ (f : Files). Serves c.loop-found.picker (packages f.pkg (store_of db)) sel
+          → NextIs (above n (picks (packages f.pkg (store_of db)) sel)) (Ok c.in_ok-next.field-0)) (inv.asking.looks.untouched told).same (done.told told)
           (inv.serves told has) in
           let os = c.loop-found.found.items in
-          let added : map offer_in c.push.new.self.items ≡ map offer_in os ++ given name (entry_in c.in-Some.next) ∷ [] =
+          let added : map offer_in c.push.new.self.items ≡ map offer_in os ++ given_ranges name (entry_in c.in-Some.next) ∷ [] =
           ap (map offer_in) c.in_ok-push.ensures.items ∙ map-append offer_in os (_ ∷ []) ∙ ap (λ o. map offer_in os ++ o ∷ []) c.in_ok-offer_of.ensures in
           offers_gained all sel name n _ c.in-Some.next (map offer_in os) (map offer_in c.push.new.self.items) (offers_above all sel name 0)
           (subst (λ o. NextIs (above n (picks all sel)) (Ok o)) is next) c.number-passed.ensures added (inv.told told has);
@@ -55,11 +55,11 @@ returns-clause-told g c = λ told has.
     let n = c.loop-found.passed in
     let pkg = (g.D.Disk.files c.args.disk.now).pkg in
     let is : c.in_ok-next.field-0 ≡ None = cc in
-    let none = subst (λ (f : Files). Serves c.loop-found.picker (packages f.pkg (room db)) sel
-    → NextIs (above n (picks (packages f.pkg (room db)) sel)) (Ok c.in_ok-next.field-0)) (inv.asking.looks.untouched told).same
+    let none = subst (λ (f : Files). Serves c.loop-found.picker (packages f.pkg (store_of db)) sel
+    → NextIs (above n (picks (packages f.pkg (store_of db)) sel)) (Ok c.in_ok-next.field-0)) (inv.asking.looks.untouched told).same
     (c.in_ok-next.ensures.told told) (inv.serves told has) in
     offers_all pkg db sel c.args.name.now n (map offer_in c.loop-found.found.items) (c.requires.asked.keeps told)
-    (subst (λ o. NextIs (above n (picks (packages pkg (room db)) sel)) (Ok o)) is none) (inv.told told has)
+    (subst (λ o. NextIs (above n (picks (packages pkg (store_of db)) sel)) (Ok o)) is none) (inv.told told has)
 
 pub returns-in_err-next-clause-asks : goal.returns-in_err-next-clause-asks
 returns-in_err-next-clause-asks g c =

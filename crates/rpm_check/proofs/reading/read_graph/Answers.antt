@@ -1,4 +1,4 @@
-use Rattle.rpm_check.proofs.Vocabulary.{AreRising, edges_of, flat_map, graph_of, HasEdgesOf, Network, Node, numbers_of, packages, room}
+use Rattle.rpm_check.proofs.Vocabulary.{AreNodesRising, edges_of, flat_map, graph_of, HasEdgesOf, Network, Node, node_numbers, packages, store_of}
 use Rattle.std.proofs.Common.{◌≡◌, ℕ, List, Ok, sym, ap, ◌∙◌, subst}
 use Rattle.rpm_check.proofs.Asking.{asking_of, asks_ended, asks_failed, asks_memory}
 use Rattle.rpm_check.proofs.Between.{has_edges}
@@ -8,22 +8,22 @@ same_network : (g : Network) (h : Network) → g.numbers ≡ h.numbers → g.edg
 same_network g h numbers edges = λ i. record { numbers = numbers i; edges = edges i }
 
 pub graph_of-requires : goal.graph_of-requires
-graph_of-requires g c = record { rising = subst AreRising (sym c.deref.ensures.value) c.in_ok-nodes.ensures.rising }
+graph_of-requires g c = record { rising = subst AreNodesRising (sym c.deref.ensures.value) c.in_ok-nodes.ensures.rising }
 
 pub returns-clause-told : goal.returns-clause-told
 returns-clause-told g c = λ told has.
-    let all = packages (g.D.Disk.files c.args.disk.now).pkg (room c.args.db.now) in
+    let all = packages (g.D.Disk.files c.args.disk.now).pkg (store_of c.args.db.now) in
     let nodes = c.in_ok-nodes.nodes.items in
     let done = c.in_ok-graph.ensures in
     let whole = c.deref.ensures.value in
     let are = c.in_ok-nodes.ensures.numbers told in
-    same_network c.in_ok-graph.graph (graph_of all) (done.numbers ∙ ap numbers_of whole ∙ are)
-    (done.edges ∙ ap (λ (vs : List Node). flat_map (edges_of (numbers_of vs)) vs) whole
+    same_network c.in_ok-graph.graph (graph_of all) (done.numbers ∙ ap node_numbers whole ∙ are)
+    (done.edges ∙ ap (λ (vs : List Node). flat_map (edges_of (node_numbers vs)) vs) whole
     ∙ ap (λ (ns : List ℕ). flat_map (edges_of ns) nodes) are ∙ c.in_ok-nodes.ensures.told told has)
 
 pub returns-clause-edges : goal.returns-clause-edges
 returns-clause-edges g c = λ told has.
-    let all = packages (g.D.Disk.files c.args.disk.now).pkg (room c.args.db.now) in
+    let all = packages (g.D.Disk.files c.args.disk.now).pkg (store_of c.args.db.now) in
     subst (HasEdgesOf all) (sym (returns-clause-told g c told has)) (has_edges all)
 
 pub returns-clause-asks : goal.returns-clause-asks

@@ -1,4 +1,4 @@
-use Rattle.rpm_check.proofs.Vocabulary.{from_one, Knows, lacks, packages, room, Unmet, unmet_at}
+use Rattle.rpm_check.proofs.Vocabulary.{from_one, Knows, lacks, packages, store_of, Unmet, unmet_at}
 use Rattle.std.proofs.Common.{◌≡◌, ◌++◌, Ok, sym, ap, ◌∙◌, append_assoc, append-nil}
 use Rattle.std.specs.Prelude.{List}
 use Rattle.std.specs.FinMap as finite
@@ -9,10 +9,10 @@ use Rattle.rpm_check.proofs.Asking.{asking_none, asking_then, asks_ended, asks_f
 pub loop-next-init : goal.loop-next-init
 loop-next-init g c = record {
   asking = asking_none g.D.Disk g.met.D.Disk.follows_refl c.args.disk.now c.args.db.now c.requires.asked;
-  remembers = λ told has. c.new-memo.ensures (packages (g.D.Disk.files c.args.disk.now).pkg (room c.args.db.now));
+  remembers = λ told has. c.new-memo.ensures (packages (g.D.Disk.files c.args.disk.now).pkg (store_of c.args.db.now));
   told = λ told has.
       let pkg = (g.D.Disk.files c.args.disk.now).pkg in
-      let all = packages pkg (room c.args.db.now) in
+      let all = packages pkg (store_of c.args.db.now) in
       ap (λ (us : List Unmet). us ++ unmet_above all (lacks all) 0) c.new-found.ensures.items
       ∙ all_rounds pkg c.args.db.now (from_one pkg c.args.db.now (c.requires.asked.keeps told));
 }
@@ -28,7 +28,7 @@ loop-next-preserved g c =
       remembers = known_back g.D.Disk (λ all. Knows all c.push_unmet.new.memo) inv.asking done.remembered;
       told = λ told has.
           let pkg = (g.D.Disk.files c.args.disk.now).pkg in
-          let all = packages pkg (room db) in
+          let all = packages pkg (store_of db) in
           let old = c.loop-next.found.items in
           let added = known_back g.D.Disk (λ all. c.push_unmet.new.found.items ≡ old ++ unmet_at (lacks all) next (finite.get all next)) inv.asking
           done.told told has in
@@ -41,7 +41,7 @@ loop-next-preserved g c =
 pub returns-clause-told : goal.returns-clause-told
 returns-clause-told g c = λ told has.
     let pkg = (g.D.Disk.files c.args.disk.now).pkg in
-    let all = packages pkg (room c.args.db.now) in
+    let all = packages pkg (store_of c.args.db.now) in
     let old = c.loop-next.found.items in
     c.of.ensures ∙ sym (append-nil old)
     ∙ ap (λ (us : List Unmet). old ++ us) (sym (no_round all (lacks all) c.loop-next.passed (c.in_default.ensures.told pkg)))

@@ -3,15 +3,15 @@ use Rattle.std.specs.Prelude.{IsTrue}
 use Rattle.rpm_commit.proofs.Vocabulary.{asked_task, changes_index, Course, EmptyBy, Files, images, is_anew, is_of_streams, IsLawful, laid_files, LimitsBy, Log}
 use Rattle.rpm_commit.proofs.Vocabulary.{KeepsLog, log_state, needs_none, OneChange, overlay_below, overlay_held, overlay_read, overlay_starved, reads_shelf}
 use Rattle.rpm_commit.proofs.Vocabulary.{recovered_kept, reopened, same_kept}
-use Rattle.rpm_commit.proofs.Vocabulary.{ReopensAsOneOf, Rose, shown, State, task_course, task_parts, TaskParts, unlogged, why_of, why_of_load, why_of_recover}
+use Rattle.rpm_commit.proofs.Vocabulary.{ReopensAsOneOf, Rose, shown_outputs, State, task_course, task_parts, TaskParts, without_log, why_of, why_of_load, why_of_recover}
 use Rattle.rpm_commit.proofs.Vocabulary.{with_file, Work}
 use Rattle.rpm_effects.specs.declared.answer.Why.TheVariants as why
-use Rattle.rpm_commit.specs.inner.Emptied.{group_empty, same_empty}
+use Rattle.rpm_commit.specs.laws.Emptied.{transaction_empty, same_empty}
 use Rattle.rpm_commit.proofs.Ends.{below_same, below_run}
-use Rattle.rpm_commit.proofs.Grouped.{group_one}
-use Rattle.rpm_commit.specs.inner.Regrouped.{leaves_on}
-use Rattle.rpm_commit.specs.inner.Standing.{shut_stands}
-use Rattle.rpm_commit.specs.inner.Unmade.{early_load, early_recover, idle_run, unmade_one}
+use Rattle.rpm_commit.proofs.Transactions.{transaction_one}
+use Rattle.rpm_commit.specs.laws.Recovered.{leaves_on}
+use Rattle.rpm_commit.specs.laws.Standing.{shut_stands}
+use Rattle.rpm_commit.specs.laws.Unmade.{early_load, early_recover, idle_run, unmade_one}
 use Rattle.rpm_commit.proofs.changing.change_asked.Goals as goal
 
 pub returns-in-Ok-load-clause-one : goal.returns-in-Ok-load-clause-one
@@ -35,19 +35,19 @@ returns-in-Ok-load-clause-one g c = λ told shelf.
     let mid = overlay_below c.in-Ok-load.overlay in
     let ro = overlay_read D c.in-Ok-load.overlay in
     let rn = overlay_read D end in
-    let before = shown g.O.Sink g.E.Sink c.args.out.now c.args.err.now in
-    let now = shown g.O.Sink g.E.Sink c.change_on-ended.new.out c.change_on-ended.new.err in
+    let before = shown_outputs g.O.Sink g.E.Sink c.args.out.now c.args.err.now in
+    let now = shown_outputs g.O.Sink g.E.Sink c.change_on-ended.new.out c.change_on-ended.new.err in
     let asked = c.in-Ok.ensures.asked in
     let telling : IsTrue D.tells × (reads_shelf t ≡ true → IsTrue g.S.Shelf.tells) = (told, λ reads. shelf (sym (ap reads_shelf asked) ∙ reads)) in
     let laid = c.in-Ok-load.ensures.files told ∙ ap (λ (f : Files). with_file Log log f) (recovered.stands told) in
     let worked = subst (λ (f : Files). Work (is_anew t) (changes_index t) course f new ended before now) laid (works.worked telling) in
     let met = subst (λ (f : Files). LimitsBy (is_anew t) (IsLawful f.pkg f.idx) course f (why_of ended)) laid (works.limits telling) in
-    let same = ap unlogged (below_same D first mid last ro rn looks works.runs.goes_on told)
+    let same = ap without_log (below_same D first mid last ro rn looks works.runs.goes_on told)
     ∙ sym (shut_stands (D.files first) (recovered.closed told)) ∙ recovered.stands told in
     let as_read = g.met.D.Disk.earlier final (D.moment last) (D.moment final) (D.files final) told ends.leaves.later (omega arith)
     (g.met.D.Disk.as_read final told) in
     subst (λ (k : TaskParts). OneChange D k (task_course (g.S.Shelf.paths c.args.shelf.now) c.args.now k) given n c.args.disk final before now) asked
-    (group_one D t course c.args.disk last final log new before now (g.met.D.Disk.as_read c.args.disk told) _ (recovered.says told)
+    (transaction_one D t course c.args.disk last final log new before now (g.met.D.Disk.as_read c.args.disk told) _ (recovered.says told)
     (below_run D first mid last ro rn looks works.runs.goes_on told c.args.disk (ReopensAsOneOf (images D c.args.disk)) (recovered.images told)) same as_read
     ended given n worked met works.halted ends (c.end_transaction.ensures.log told))
 
@@ -59,7 +59,7 @@ returns-in-Ok-load-clause-empty g c = λ told.
     let given = c.end_transaction.result.0.why in
     subst (λ (t : TaskParts). EmptyBy (needs_none t) (reopened (g.D.Disk.files c.args.disk)) given) c.in-Ok.ensures.asked
     (subst (λ (f : Files). EmptyBy needs f given) (c.in-Ok-recover.ensures.stands told)
-    (group_empty needs r ended given c.end_transaction.result.0.changes (c.end_transaction.ensures.ends told).says
+    (transaction_empty needs r ended given c.end_transaction.result.0.changes (c.end_transaction.ensures.ends told).says
     (same_empty needs _ r (why_of ended) (ap (λ (f : Files). f.pkg) (c.in-Ok-load.ensures.files told)) (c.change_on-ended.ensures.works.empty told))))
 
 pub returns-in-Ok-load-clause-keeps : goal.returns-in-Ok-load-clause-keeps
@@ -129,7 +129,7 @@ returns-in-Ok-recover-clause-one g c = λ told shelf.
     (subst (λ (f : Files). KeepsLog (D.files c.args.disk) f) (sym (looks.untouched told).same)
     (recovered_kept (D.files c.args.disk) (D.files first) (recovered.kept told)))
     (leaves_on D c.args.disk first back (ReopensAsOneOf (images D c.args.disk)) looks.moment_stays (looks.untouched told).images (recovered.images told))
-    (shown g.O.Sink g.E.Sink c.args.out.now c.args.err.now) (why_of_load fault)
+    (shown_outputs g.O.Sink g.E.Sink c.args.out.now c.args.err.now) (why_of_load fault)
     (early_load (log_state (D.files c.args.disk).log) (log_state (D.files first).log) (recovered.closed told) fault (c.in-Err-load.ensures.says told)))
 
 -- ---- not recovered
@@ -142,7 +142,7 @@ returns-clause-one g c = λ told shelf.
     rw (c.unchanged-in-Err-recover.ensures, c.why_of_recover.ensures)
     (unmade_one g.D.Disk t (task_course (g.S.Shelf.paths c.args.shelf.now) c.args.now t) c.args.disk c.recover.new.disk (first.stands told)
     (recovered_kept (g.D.Disk.files c.args.disk) (g.D.Disk.files c.recover.new.disk) (first.kept told)) (first.images told)
-    (shown g.O.Sink g.E.Sink c.args.out.now c.args.err.now) (why_of_recover fault)
+    (shown_outputs g.O.Sink g.E.Sink c.args.out.now c.args.err.now) (why_of_recover fault)
     (early_recover (log_state (g.D.Disk.files c.args.disk).log) fault (first.says told)))
 
 -- ---- not begun
@@ -152,4 +152,4 @@ returns-in-Err-clause-one g c = λ told shelf.
     let t = asked_task c.args.words.now c.args.ask.now in
     rw c.unchanged.ensures (unmade_one g.D.Disk t (task_course (g.S.Shelf.paths c.args.shelf.now) c.args.now t) c.args.disk c.args.disk refl
     (same_kept (g.D.Disk.files c.args.disk)) (idle_run g.D.Disk c.args.disk)
-    (shown g.O.Sink g.E.Sink c.args.out.now c.args.err.now) why.NoMemory tt)
+    (shown_outputs g.O.Sink g.E.Sink c.args.out.now c.args.err.now) why.NoMemory tt)

@@ -3,12 +3,12 @@ use Rattle.std.specs.Prelude.{IsTrue, codes}
 use Rattle.std.proofs.lemmas.Result.{err_from_is_err_and}
 use Rattle.rpm_commit.proofs.Vocabulary.{add_files, bytes_at, changes_index, ended_as, erase, exercise_ended, Halted, import_list, inner, is_anew}
 use Rattle.rpm_commit.proofs.Vocabulary.{IsOfErasing, IsOfImporting, IsOfPutting, IsOfRebuilding, IsStop, max_headers, needs_none, Outputs, reads_shelf}
-use Rattle.rpm_commit.proofs.Vocabulary.{rebuild, replace, runs_none, SameLog, shown, task_course, task_parts, Through}
+use Rattle.rpm_commit.proofs.Vocabulary.{rebuild, replace, runs_none, SameLog, shown_outputs, task_course, task_parts, Through}
 use Rattle.rpm_effects.specs.declared.tally.Halt.TheVariants as halt
 use Rattle.rpm_commit.proofs.Coursed.{unopened_works, made_works, went_works, anew_works, exercise_works}
 use Rattle.rpm_commit.proofs.Halting.{course_empty, ended_back, exercise_back, idle_hand, never_cause, never_of, never_of_exercise, streams_by}
 use Rattle.rpm_commit.proofs.Halting.{unopened_streams}
-use Rattle.rpm_commit.specs.inner.Unmade.{through_none}
+use Rattle.rpm_commit.specs.laws.Unmade.{through_none}
 use Rattle.rpm_commit.proofs.courses.change_on.Goals as goal
 
 -- ---- not opened
@@ -20,7 +20,7 @@ returns-in_err-db-clause-works g c =
     let p = err_from_is_err_and c.from_residual.result c.from_residual.ensures.1 in
     rw (p.1, p.2) (unopened_works g.D.Disk (reads_shelf t) (IsTrue g.S.Shelf.tells) c.args.disk.now c.open_to_change.new.disk (is_anew t)
     (changes_index t) (needs_none t) (task_course (g.S.Shelf.paths c.args.shelf.now) c.args.now t)
-    (shown g.O.Sink g.E.Sink c.args.out.now c.args.err.now) c.in_err-db.field-0.0 said.found said.fault said.runs
+    (shown_outputs g.O.Sink g.E.Sink c.args.out.now c.args.err.now) c.in_err-db.field-0.0 said.found said.fault said.runs
     (record { later = said.disk.later; rose = λ is. said.disk.rose (ap Err is) }))
 
 pub returns-in_err-db-clause-streams : goal.returns-in_err-db-clause-streams
@@ -36,7 +36,7 @@ pub returns-in-Make-clause-works : goal.returns-in-Make-clause-works
 returns-in-Make-clause-works g c =
     let opened = c.in_ok-db.ensures in
     rw c.in-Make.is (made_works g.D.Disk g.met.D.Disk.follows_trans false (IsTrue g.S.Shelf.tells) c.args.disk.now c.open_to_change.new.disk c.in_ok-db.db
-    opened.found opened.opens opened.runs opened.disk.later (shown g.O.Sink g.E.Sink c.args.out.now c.args.err.now)
+    opened.found opened.opens opened.runs opened.disk.later (shown_outputs g.O.Sink g.E.Sink c.args.out.now c.args.err.now)
     (runs_none g.D.Disk g.met.D.Disk.follows_refl SameLog (λ f. refl) c.open_to_change.new.disk))
 
 pub returns-in-Add-clause-works : goal.returns-in-Add-clause-works
@@ -49,7 +49,8 @@ returns-in-Add-clause-works g c =
     c.args.disk.now
     c.open_to_change.new.disk c.in_ok-db.db opened.found opened.opens opened.runs opened.disk.later
     (λ s. add_files (g.S.Shelf.paths c.args.shelf.now) c.args.now s (map (λ path. path.now) c.as_slice-paths.result.now))
-    left.disk left.db (shown g.O.Sink g.E.Sink out c.args.err.now) (shown g.O.Sink g.E.Sink out left.err) (λ t. (t.0, t.1 refl)) c.add_files.result went
+    left.disk left.db (shown_outputs g.O.Sink g.E.Sink out c.args.err.now) (shown_outputs g.O.Sink g.E.Sink out left.err)
+    (λ t. (t.0, t.1 refl)) c.add_files.result went
     (λ t. went.ended (t.0, t.1 refl) g.O.Sink.tells (g.O.Sink.taken (inner out))))
 
 pub returns-in-Replace-clause-works : goal.returns-in-Replace-clause-works
@@ -61,7 +62,8 @@ returns-in-Replace-clause-works g c =
     rw (c.in-Replace.is, c.ended-in-Replace.ensures) (went_works g.D.Disk g.met.D.Disk.follows_trans true (IsTrue g.S.Shelf.tells) c.args.disk.now
     c.open_to_change.new.disk c.in_ok-db.db opened.found opened.opens opened.runs opened.disk.later
     (λ s. replace (g.S.Shelf.paths c.args.shelf.now) c.args.now s c.in-Replace.number c.in-Replace.path.now)
-    left.disk left.db (shown g.O.Sink g.E.Sink out c.args.err.now) (shown g.O.Sink g.E.Sink out left.err) (λ t. (t.0, t.1 refl)) c.replace_package.result went
+    left.disk left.db (shown_outputs g.O.Sink g.E.Sink out c.args.err.now) (shown_outputs g.O.Sink g.E.Sink out left.err)
+    (λ t. (t.0, t.1 refl)) c.replace_package.result went
     (λ t. went.ended (t.0, t.1 refl) g.O.Sink.tells (g.O.Sink.taken (inner out))))
 
 pub returns-in-Erase-clause-works : goal.returns-in-Erase-clause-works
@@ -74,7 +76,7 @@ returns-in-Erase-clause-works g c =
     g.S.Shelf.tells) c.args.disk.now
     c.open_to_change.new.disk c.in_ok-db.db opened.found opened.opens opened.runs opened.disk.later
     (λ s. erase s c.as_slice-numbers.result.now)
-    left.disk left.db (shown g.O.Sink g.E.Sink out c.args.err.now) (shown g.O.Sink g.E.Sink out left.err) (λ t. t.0) c.erase_numbers.result went
+    left.disk left.db (shown_outputs g.O.Sink g.E.Sink out c.args.err.now) (shown_outputs g.O.Sink g.E.Sink out left.err) (λ t. t.0) c.erase_numbers.result went
     (λ t. went.ended t.0 g.O.Sink.tells (g.O.Sink.taken (inner out))))
 
 pub returns-in-Import-clause-works : goal.returns-in-Import-clause-works
@@ -86,7 +88,8 @@ returns-in-Import-clause-works g c =
     rw (c.in-Import.is, c.ended-in-Import.ensures) (went_works g.D.Disk g.met.D.Disk.follows_trans true (IsTrue g.S.Shelf.tells) c.args.disk.now
     c.open_to_change.new.disk c.in_ok-db.db opened.found opened.opens opened.runs opened.disk.later
     (λ s. import_list max_headers (bytes_at (g.S.Shelf.paths c.args.shelf.now) (codes "-")))
-    left.disk left.db (shown g.O.Sink g.E.Sink out c.args.err.now) (shown g.O.Sink g.E.Sink out left.err) (λ t. (t.0, t.1 refl)) c.import_list.result went
+    left.disk left.db (shown_outputs g.O.Sink g.E.Sink out c.args.err.now) (shown_outputs g.O.Sink g.E.Sink out left.err)
+    (λ t. (t.0, t.1 refl)) c.import_list.result went
     (λ t. went.ended (t.0, t.1 refl) g.O.Sink.tells (g.O.Sink.taken (inner out))))
 
 pub returns-in-Rebuild-clause-works : goal.returns-in-Rebuild-clause-works
@@ -95,8 +98,8 @@ returns-in-Rebuild-clause-works g c =
     let left = c.rebuild.new in
     let said = c.rebuild.ensures in
     let err = c.args.err.now in
-    let before = shown g.O.Sink g.E.Sink c.args.out.now err in
-    let now = shown g.O.Sink g.E.Sink left.out err in
+    let before = shown_outputs g.O.Sink g.E.Sink c.args.out.now err in
+    let now = shown_outputs g.O.Sink g.E.Sink left.out err in
     let r = c.rebuild.result in
     rw (c.in-Rebuild.is, c.ended-in-Rebuild.ensures) (anew_works g.D.Disk g.met.D.Disk.follows_trans false (IsTrue g.S.Shelf.tells) c.args.disk.now
     c.open_to_change.new.disk c.in_ok-db.db opened.found opened.opens opened.runs opened.disk.later (λ s. rebuild s) left.disk left.db before now false r
@@ -109,11 +112,11 @@ returns-clause-works g c =
     let left = c.exercise.new in
     let said = c.exercise.ensures in
     let err = c.args.err.now in
-    let before = shown g.O.Sink g.E.Sink c.args.out.now err in
+    let before = shown_outputs g.O.Sink g.E.Sink c.args.out.now err in
     rw (c.in-Exercise.is, c.exercise_ended.ensures) (exercise_works g.D.Disk g.met.D.Disk.follows_trans false (IsTrue g.S.Shelf.tells) c.args.disk.now
     c.open_to_change.new.disk c.in_ok-db.db opened.found opened.opens opened.runs opened.disk.later c.in-Exercise.headers left.disk left.db before
-    (shown g.O.Sink g.E.Sink left.out err) c.exercise.result said.empty
-    (λ held is. subst (λ (x : Outputs). Through [] before x) (ap (λ o. shown g.O.Sink g.E.Sink o err) (sym (said.refused held is).2))
+    (shown_outputs g.O.Sink g.E.Sink left.out err) c.exercise.result said.empty
+    (λ held is. subst (λ (x : Outputs). Through [] before x) (ap (λ o. shown_outputs g.O.Sink g.E.Sink o err) (sym (said.refused held is).2))
     (through_none before))
     (λ t. said.ended t.0 g.E.Sink.tells (g.E.Sink.taken (inner err))) said.limits said.current said.runs said.disk)
 

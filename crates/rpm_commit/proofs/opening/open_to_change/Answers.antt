@@ -1,6 +1,6 @@
-use Rattle.rpm_commit.proofs.Vocabulary.{Files, must_make, packages, Remade, room, rows, runs_none, runs_then, SameLog, store, units_needed}
-use Rattle.std.proofs.Common.{◌≡◌, length, refl, ap, ◌∙◌, inl, inr, ⊎_elim, arith}
-use Rattle.rpm_commit.specs.inner.Brokens.{by_bool, open_broken}
+use Rattle.rpm_commit.proofs.Vocabulary.{Files, must_rebuild, packages, Remade, store_of, rows, runs_none, runs_then, SameLog, store, units_needed}
+use Rattle.std.proofs.Common.{length, refl, ap, ◌∙◌, inl, inr, ⊎_elim, arith}
+use Rattle.rpm_commit.specs.laws.Brokens.{by_bool, open_broken}
 use Rattle.rpm_commit.proofs.FileReach.{least_units}
 use Rattle.rpm_commit.proofs.opening.open_to_change.Goals as goal
 
@@ -25,12 +25,12 @@ returns-clause-opens g c =
       broken = λ told. open_broken old mid new c.in-Ok.db (c.in-Ok.ensures.opened told) (begins.whole told);
       finds = λ told.
           let opened = c.in-Ok.ensures.opened told in
-          by_bool (must_make old.idx (store old.pkg)) (λ making. inl (begins.rows told (λ some. opened.made making)))
+          by_bool (must_rebuild old.idx (store old.pkg)) (λ making. inl (begins.rows told (λ some. opened.made making)))
           (λ making. ⊎_elim inl (λ same. inr (same ∙ ap (λ (f : Files). f.idx) (opened.same making))) (begins.finds told));
       found = λ told.
           let is = (c.in-Ok.ensures.opened told).store_is in
           record {
-            value = room c.in-Ok.db;
+            value = store_of c.in-Ok.db;
             undamaged = is;
             store_is = begins.store_is;
             reach = record {
@@ -40,7 +40,7 @@ returns-clause-opens g c =
                 begins.reach told,
                 c.in-Ok.ensures.served.reach told,
                 ap (units_needed old.pkg) is,
-                least_units (rows (packages old.pkg (room c.in-Ok.db))),
+                least_units (rows (packages old.pkg (store_of c.in-Ok.db))),
               );
             };
           };

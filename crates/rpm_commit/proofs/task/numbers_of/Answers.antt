@@ -1,8 +1,8 @@
 use Rattle.std.proofs.Common.{◌≡◌, ℕ, ◌+◌, List, [], ◌∷◌, ◌++◌, Option, Some, drop, sym, ap, ◌∙◌, append_assoc, arith}
 use Rattle.std.specs.Prelude.{slice_get}
-use Rattle.rpm_commit.proofs.Vocabulary.{filter_map, number, text_at}
+use Rattle.rpm_commit.proofs.Vocabulary.{filter_map, number, word_at}
 use Rattle.std.proofs.lemmas.List.Elements.{filter_map-append}
-use Rattle.rpm_effects.specs.inner.Parts.{drop_get}
+use Rattle.rpm_effects.specs.laws.Parts.{drop_get}
 use Rattle.rpm_commit.proofs.task.numbers_of.Goals as goal
 
 -- one more is gone over
@@ -17,7 +17,7 @@ more f args ns ms all k w here is before =
 
 pub loop-k-preserved : goal.loop-k-preserved
 loop-k-preserved c = record {
-  numbers = more (λ w. number (text_at c.args.words.now w)) c.args.ask.now.arguments c.loop-k.numbers.items c.push_number.new.numbers.items _ c.loop-k.k
+  numbers = more (λ w. number (word_at c.args.words.now w)) c.args.ask.now.arguments c.loop-k.numbers.items c.push_number.new.numbers.items _ c.loop-k.k
       c.argument.result c.argument.ensures
       (c.in_ok-push_number.ensures.items ∙ ap (λ (t : List ℕ). c.loop-k.numbers.items ++ filter_map number (t ∷ [])) c.text_at.ensures)
       c.loop-k.invariant.numbers;

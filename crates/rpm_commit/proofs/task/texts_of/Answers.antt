@@ -1,8 +1,8 @@
 use Rattle.std.proofs.Common.{◌≡◌, ℕ, ◌+◌, List, [], ◌∷◌, ◌++◌, map, length, drop, Some, Bor, sym, ap, ◌∙◌, append_assoc, arith}
 use Rattle.std.specs.Prelude.{slice_get}
 use Rattle.std.proofs.lemmas.List.{length-append, map-append}
-use Rattle.rpm_commit.proofs.Vocabulary.{text_at}
-use Rattle.rpm_effects.specs.inner.Parts.{drop_get}
+use Rattle.rpm_commit.proofs.Vocabulary.{word_at}
+use Rattle.rpm_effects.specs.laws.Parts.{drop_get}
 use Rattle.rpm_commit.proofs.task.texts_of.Goals as goal
 
 abbrev bytes : Bor (List ℕ) → List ℕ
@@ -24,7 +24,7 @@ loop-k-preserved c =
     let items = c.in_ok-push.ensures.items in
     let longer : length c.push.new.self.items ≡ length c.loop-k.texts.items + 1 = ap length items ∙ length-append c.loop-k.texts.items (_ ∷ []) in
     record {
-      texts = more (text_at c.args.words.now) c.args.ask.now.arguments c.loop-k.texts.items c.push.new.self.items _ c.loop-k.k c.argument.result
+      texts = more (word_at c.args.words.now) c.args.ask.now.arguments c.loop-k.texts.items c.push.new.self.items _ c.loop-k.k c.argument.result
           c.argument.ensures items c.text_at.ensures c.loop-k.invariant.texts;
       few = omega (arith, longer, c.loop-k.invariant.few);
     }

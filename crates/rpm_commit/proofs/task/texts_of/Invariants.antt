@@ -1,9 +1,9 @@
 use Rattle.std.proofs.Common.{◌≡◌, ◌≤◌, ◌++◌, map, length, drop}
-use Rattle.rpm_commit.proofs.Vocabulary.{text_at}
+use Rattle.rpm_commit.proofs.Vocabulary.{word_at}
 use Rattle.rpm_commit.proofs.task.texts_of.Given as goal
 
 abbrev pub invariant-loop-k : goal.invariant-loop-k
 invariant-loop-k l = record {
-  texts : map (λ text. text.now) l.texts.items ++ map (text_at l.words) (drop l.k l.ask.arguments) ≡ map (text_at l.words) l.ask.arguments;
+  texts : map (λ text. text.now) l.texts.items ++ map (word_at l.words) (drop l.k l.ask.arguments) ≡ map (word_at l.words) l.ask.arguments;
   few : length l.texts.items ≤ l.k;
 }

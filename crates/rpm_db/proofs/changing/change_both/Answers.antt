@@ -1,9 +1,9 @@
 use Rattle.std.proofs.Common.{refl, sym, ap, ◌∙◌, subst, arith, rules}
-use Rattle.rpm_db.proofs.Vocabulary.{Anything, blobs, edited, edited_number, EditReaches, Files, IsApplied, IsStored, KeepsSums, Units}
+use Rattle.rpm_db.proofs.Vocabulary.{Anything, blobs, edited_blobs, edited_number, EditReaches, Files, IsApplied, IsStoreWritten, KeepsSums, Units}
 use Rattle.rpm_db.proofs.Both.{runs_both, runs_store}
-use Rattle.rpm_db.proofs.Halves.{applied_since, both_stop, half_stops, read_of, rows_written, state_written, stored_then}
+use Rattle.rpm_db.proofs.Halves.{applied_since, both_crash, half_crashes, read_of, rows_written, state_written, stored_then}
 use Rattle.rpm_db.proofs.Results.{map_ok, on_ok}
-use Rattle.rpm_db.proofs.Unwritten.{log_same, log_then, stops_refused}
+use Rattle.rpm_db.proofs.Unwritten.{log_same, log_then, crashes_refused}
 use Rattle.rpm_db.proofs.Wholes.{whole_sealed}
 use Rattle.rpm_db.proofs.changing.change_both.Goals as goal
 
@@ -23,19 +23,20 @@ returns-in-Err-clause-refused g c = λ refusal. record { store_is = refl; index_
 pub returns-in-Err-clause-runs : goal.returns-in-Err-clause-runs
 returns-in-Err-clause-runs g c = record { files = log_same g.D.Disk _ _ c.in-Err.ensures.runs; cause = search rules }
 
-pub returns-in-Err-clause-stops : goal.returns-in-Err-clause-stops
-returns-in-Err-clause-stops g c = λ told lawful has. stops_refused _ _ g.D.Disk _ _ told lawful c.in-Err.ensures.runs
+pub returns-in-Err-clause-crashes : goal.returns-in-Err-clause-crashes
+returns-in-Err-clause-crashes g c = λ told lawful has. crashes_refused _ _ g.D.Disk _ _ told lawful c.in-Err.ensures.runs
 
 -- ---- the store was, in part
 
 pub returns-in_default-clause-store : goal.returns-in_default-clause-store
 returns-in_default-clause-store g c = (search rules, search rules)
 
-pub returns-in_default-clause-stops : goal.returns-in_default-clause-stops
-returns-in_default-clause-stops g c = λ told lawful has.
+pub returns-in_default-clause-crashes : goal.returns-in_default-clause-crashes
+returns-in_default-clause-crashes g c = λ told lawful has.
     let r = c.requires.ready in
-    half_stops g.D.Disk _ _ _ told lawful (g.met.D.Disk.as_read c.args.disk.now told) c.in-Ok.ensures.runs c.args.store.now (r.keeps told) r.made (r.quiet told)
-    (r.settled told) _ _ (rw (c.in-Ok.ensures.runs.reads_as told) at (c.in_default.ensures.images told))
+    half_crashes g.D.Disk _ _ _ told lawful (g.met.D.Disk.as_read c.args.disk.now told) c.in-Ok.ensures.runs c.args.store.now (r.keeps told) r.made
+    (r.quiet told)
+    (r.durable told) _ _ (rw (c.in-Ok.ensures.runs.reads_as told) at (c.in_default.ensures.images told))
 
 pub returns-in_default-clause-runs : goal.returns-in_default-clause-runs
 returns-in_default-clause-runs g c = record {
@@ -48,13 +49,13 @@ returns-in_default-clause-runs g c = record {
 pub returns-clause-store : goal.returns-clause-store
 returns-clause-store g c = (search rules, search rules)
 
-pub returns-clause-stops : goal.returns-clause-stops
-returns-clause-stops g c = λ told lawful has.
+pub returns-clause-crashes : goal.returns-clause-crashes
+returns-clause-crashes g c = λ told lawful has.
     let r = c.requires.ready in
     let e = c.in-Ok.ensures in
     let w = c.in-Ok-edit_raised.ensures in
-    both_stop g.D.Disk _ _ _ told lawful (g.met.D.Disk.as_read c.args.disk.now told) e.runs c.args.store.now (r.keeps told) r.made (r.quiet told)
-    (r.settled told) _ _ (rw (e.runs.reads_as told) at (w.images told)) _ c.edit_raised.new.store c.in-Ok.change.work _ _
+    both_crash g.D.Disk _ _ _ told lawful (g.met.D.Disk.as_read c.args.disk.now told) e.runs c.args.store.now (r.keeps told) r.made (r.quiet told)
+    (r.durable told) _ _ (rw (e.runs.reads_as told) at (w.images told)) _ c.edit_raised.new.store c.in-Ok.change.work _ _
     ((e.leads _ c.requires.rows).makes told has) w.writes.changes w.edit.generation w.edit.field (rw (e.runs.reads_as told) at w.stored)
     c.generation.ensures.value c.write_rows.ensures.writes.changes
 
@@ -76,10 +77,10 @@ returns-clause-done g c =
     let after = c.edit_raised.new.store in
     let index = c.write_rows.new.index in
     let work = c.in-Ok.change.work in
-    let to = edited c.args.edit c.args.blob.now (blobs old.pkg st) in
+    let to = edited_blobs c.args.edit c.args.blob.now (blobs old.pkg st) in
     let leads = e.leads _ c.requires.rows in
-    let stored : IsStored D c.write_rows.new.disk after to = stored_then D after _ to _ 0 _ _ (λ told.
-    ap (λ (f : Files). edited c.args.edit c.args.blob.now (blobs f.pkg st)) (e.runs.reads_as told)) c.write_rows.ensures.writes.changes w.stored in
+    let stored : IsStoreWritten D c.write_rows.new.disk after to = stored_then D after _ to _ 0 _ _ (λ told.
+    ap (λ (f : Files). edited_blobs c.args.edit c.args.blob.now (blobs f.pkg st)) (e.runs.reads_as told)) c.write_rows.ensures.writes.changes w.stored in
     map_ok c.write_rows.result (λ (done : IsApplied D c.edit_raised.new.disk c.write_rows.new.disk c.args.index.now index c.generation.result work).
     let applied : IsApplied D c.args.disk.now c.write_rows.new.disk c.args.index.now index after.generation work =
     applied_since D _ _ _ _ _ _ _ _ (λ told. w.writes.changes.idx told ∙ ap (λ (f : Files). f.idx) (e.runs.reads_as told)) c.generation.ensures.value done in
@@ -91,7 +92,7 @@ returns-clause-done g c =
         keeps = stored.kept;
         units = applied.kept;
         quiet = stored.quiet;
-        settled = applied.settled;
+        durable = applied.durable;
       };
       generation_is = w.edit.generation;
       state_is = λ told. state_written new.pkg after to _ (stored.blobs_are told) w.edit.field;

@@ -2,9 +2,9 @@ use Rattle.std.proofs.Common.{◌≤◌, length, refl, sym, ap, ◌∙◌, subst
 use Rattle.std.specs.FinMap as finite
 use Rattle.rpm_db.proofs.Vocabulary.{Anything, blobs, Files, KeepsSums, store}
 use Rattle.rpm_db.proofs.Both.{runs_store}
-use Rattle.rpm_db.proofs.Halves.{half_stops}
+use Rattle.rpm_db.proofs.Halves.{half_crashes}
 use Rattle.rpm_db.proofs.Results.{cause_as, cause_done}
-use Rattle.rpm_db.proofs.Unwritten.{log_same, log_then, looked_store, settled_same, stops_refused}
+use Rattle.rpm_db.proofs.Unwritten.{log_same, log_then, looked_store, durable_same, crashes_refused}
 use Rattle.rpm_db.proofs.gathering.erase_aside.Goals as goal
 
 pub edit_raised-requires-clause-ready : goal.edit_raised-requires-clause-ready
@@ -32,7 +32,7 @@ returns-in-Err g c =
       index = λ told. ap (λ (f : Files). f.idx) (run.reads_as told);
       sums = tt;
       refused = λ refusal. (refl, run, x.looks.moment_stays);
-      stops = λ told lawful. stops_refused _ _ g.D.Disk _ _ told lawful run;
+      crashes = λ told lawful. crashes_refused _ _ g.D.Disk _ _ told lawful run;
       reads = x.looks.reads.pkg;
       runs = record { files = log_same g.D.Disk _ _ run; cause = cause_as c.in-Err.fault x.cause };
     }
@@ -56,8 +56,8 @@ returns-in-Err-edit_raised g c =
       end = tt;
       index = λ told. w.writes.changes.idx told ∙ ap (λ (f : Files). f.idx) (run.reads_as told);
       refused = λ refusal. absurd refusal;
-      stops = λ told lawful.
-          half_stops g.D.Disk _ _ _ told lawful (g.met.D.Disk.as_read c.args.disk.now told) run st (r.keeps told) r.made (r.quiet told) (r.settled told) _ _
+      crashes = λ told lawful.
+          half_crashes g.D.Disk _ _ _ told lawful (g.met.D.Disk.as_read c.args.disk.now told) run st (r.keeps told) r.made (r.quiet told) (r.durable told) _ _
           (rw (run.reads_as told) at (w.images told));
       reads = omega (arith, x.looks.reads.pkg, w.writes.changes.reads.pkg);
       runs = record {
@@ -89,9 +89,9 @@ returns-in-Ok-edit_raised g c =
           quiet = w.stored.quiet;
           stands = w.stored.stands;
         };
-        settled = λ told image here.
+        durable = λ told image here.
             (let moved = w.writes.changes.now told image here in
-            moved.idx ∙ settled_same g.D.Disk _ _ told run (r.settled told) moved.from moved.was ∙ sym (w.writes.changes.idx told));
+            moved.idx ∙ durable_same g.D.Disk _ _ told run (r.durable told) moved.from moved.was ∙ sym (w.writes.changes.idx told));
       };
       sums = λ told.
           subst (λ (f : Files). KeepsSums c.args.n f.pkg (g.D.Disk.files c.edit_raised.new.disk).pkg st c.edit_raised.new.store) (run.reads_as told)
@@ -101,8 +101,8 @@ returns-in-Ok-edit_raised g c =
       end = λ told. subst (λ (f : Files). length (g.D.Disk.files c.edit_raised.new.disk).pkg ≤ length f.pkg) (run.reads_as told) (w.end told);
       index = λ told. w.writes.changes.idx told ∙ ap (λ (f : Files). f.idx) (run.reads_as told);
       refused = tt;
-      stops = λ told lawful.
-          half_stops g.D.Disk _ _ _ told lawful (g.met.D.Disk.as_read c.args.disk.now told) run st (r.keeps told) r.made (r.quiet told) (r.settled told) _ _
+      crashes = λ told lawful.
+          half_crashes g.D.Disk _ _ _ told lawful (g.met.D.Disk.as_read c.args.disk.now told) run st (r.keeps told) r.made (r.quiet told) (r.durable told) _ _
           (rw (run.reads_as told) at (w.images told));
       reads = omega (arith, x.looks.reads.pkg, w.writes.changes.reads.pkg);
       runs = record {

@@ -4,7 +4,7 @@ use Rattle.rpm_db.proofs.Vocabulary.{DiskFault, Files, FullCause, IndexTo, IsApp
 use Rattle.rpm_hindex.specs.State as hindex
 use Rattle.rpm_db.proofs.Both.{quiet_then, runs_rows}
 use Rattle.rpm_db.proofs.Changed.{rows_sealed}
-use Rattle.rpm_db.proofs.FillStops.{stops_filled}
+use Rattle.rpm_db.proofs.FillCrashes.{crashes_filled}
 use Rattle.rpm_db.proofs.OwedRows.{current_sealed, other_sealed, rows_clear}
 use Rattle.rpm_db.proofs.Refused.{never_of_disk}
 use Rattle.rpm_db.proofs.Unwritten.{log_then, looked_at, quiet_same}
@@ -22,7 +22,7 @@ returns-then-is_current-clause-filled g c =
     record {
       current = current;
       kept = λ told. c.requires.ready.keeps told;
-      settled = λ told. c.requires.ready.settled told;
+      durable = λ told. c.requires.ready.durable told;
       quiet = λ told value quiet. quiet;
       rows_are = λ told from to has changed.
           rows_clear from to (g.D.Disk.files c.args.disk.now).idx c.args.owed (c.requires.ready.clear at) has changed;
@@ -48,7 +48,7 @@ returns-clause-filled g c =
     map_ok c.write_rows.result (λ (w : IsApplied D b e index c.write_rows.new.index n work). record {
       current = w.current;
       kept = w.kept;
-      settled = w.settled;
+      durable = w.durable;
       quiet = λ told value quiet.
           quiet_then D told value (IndexTo n work (D.files b).idx) 0 b e c.write_rows.ensures.writes.changes (quiet_same D a b told run value quiet);
       rows_are = λ told from to has changed.
@@ -97,10 +97,10 @@ returns-clause-runs g c =
 
 -- ---- what crashes leave
 
-pub returns-clause-stops : goal.returns-clause-stops
-returns-clause-stops g c = λ told lawful from to has changed of.
+pub returns-clause-crashes : goal.returns-clause-crashes
+returns-clause-crashes g c = λ told lawful from to has changed of.
     let ready = c.requires.ready in
     let leads = c.in-Ok.ensures.leads in
     let apart = other_sealed c.args.generation c.args.index.now ready.order (sym c.is_current.ensures ∙ c.if-is_current.false) in
-    stops_filled g.D.Disk _ _ _ told lawful (looked_at g.D.Disk _ _ _ c.in-Ok.ensures.looks) c.args.generation c.in-Ok.plan.work to (ready.settled told)
+    crashes_filled g.D.Disk _ _ _ told lawful (looked_at g.D.Disk _ _ _ c.in-Ok.ensures.looks) c.args.generation c.in-Ok.plan.work to (ready.durable told)
     (λ at. apart (ap hindex.sealed (ready.keeps told).first ∙ at)) of ((leads from to changed).makes told has) c.write_rows.ensures.writes.changes

@@ -1,14 +1,14 @@
 use Rattle.std.proofs.Common.{ℕ, ◌≡◌, ◌+◌, List, Option, Ok, Err, sym, ap, ◌∙◌, subst, arith}
 use Rattle.std.specs.FinMap as finite
-use Rattle.rpm_db.proofs.Vocabulary.{Anything, blobs, CanEdit, edited, Files, Header, header_rows, KeepsSums, nat_cmp, number_for, old_rows, Package, packages, ReachesTo}
+use Rattle.rpm_db.proofs.Vocabulary.{Anything, blobs, CanEdit, edited_blobs, Files, Header, header_rows, KeepsSums, nat_cmp, number_for, old_rows, Package, packages, ReachesTo}
 use Rattle.rpm_db.proofs.Vocabulary.{RowChange, Store, store, TakesRows, Units, with_rows, with_spare}
 use Rattle.rpm_pkgdb.specs.Store as pkgdb
 use Rattle.rpm_db.proofs.Both.{runs_store}
-use Rattle.rpm_db.proofs.Planning.{field_is, map_is, planned, stops_aside, sums_are}
+use Rattle.rpm_db.proofs.Planning.{field_is, map_is, planned, crashes_aside, sums_are}
 use Rattle.rpm_db.proofs.Puts.{number_same, packages_same, reads_put}
 use Rattle.rpm_db.proofs.Results.{cause_as, cause_done}
 use Rattle.rpm_db.proofs.Rooms.{finds_none, finds_room}
-use Rattle.rpm_db.proofs.Unwritten.{log_same, log_then, settled_same, stops_refused}
+use Rattle.rpm_db.proofs.Unwritten.{log_same, log_then, durable_same, crashes_refused}
 use Rattle.rpm_db.specs.declared.writing.Edit.TheVariants as edit
 use Rattle.rpm_db.proofs.gathering.store_header.Goals as goal
 
@@ -24,7 +24,7 @@ rows_told file n value made h owed same =
 
 pub gather_rows-requires-clause-store : goal.gather_rows-requires-clause-store
 gather_rows-requires-clause-store g c = λ told.
-    subst (pkgdb.Keeps (g.D.Disk.files c.args.disk.now).pkg) (sym c.in-Ok.ensures.value) (c.requires.ready.keeps told)
+    subst (pkgdb.KeepsStore (g.D.Disk.files c.args.disk.now).pkg) (sym c.in-Ok.ensures.value) (c.requires.ready.keeps told)
 
 pub edit_raised-requires-clause-ready : goal.edit_raised-requires-clause-ready
 edit_raised-requires-clause-ready g c =
@@ -33,7 +33,7 @@ edit_raised-requires-clause-ready g c =
     record {
       going = ap (λ (v : Store). v.is_stopped) e.value ∙ c.requires.ready.going;
       made = e.made;
-      keeps = λ told. subst (pkgdb.Keeps (g.D.Disk.files c.gather_rows.new.disk).pkg) (sym e.value)
+      keeps = λ told. subst (pkgdb.KeepsStore (g.D.Disk.files c.gather_rows.new.disk).pkg) (sym e.value)
           (ap (λ (f : Files). store f.pkg) (same told) ∙ c.requires.ready.keeps told);
     }
 
@@ -68,7 +68,7 @@ returns-in-Err-gather_rows g c =
       index = λ told. ap (λ (f : Files). f.idx) (x.runs.reads_as told);
       sums = tt;
       refused = λ refusal. (e.value, x.runs, x.moment);
-      stops = λ told lawful. stops_refused _ _ g.D.Disk _ _ told lawful x.runs;
+      crashes = λ told lawful. crashes_refused _ _ g.D.Disk _ _ told lawful x.runs;
       reads = reads_put c.args.n c.args.store.now _ e.value _ c.in-Ok.plan e.plan.suits.plan_is e.placed.1 _ _ (omega (arith, x.reads));
       runs = record { files = log_same g.D.Disk _ _ x.runs; cause = cause_as fault x.cause };
     }
@@ -79,11 +79,11 @@ pub returns-in-Err-edit_raised-clause-index : goal.returns-in-Err-edit_raised-cl
 returns-in-Err-edit_raised-clause-index g c = λ told.
     c.in-Err-edit_raised.ensures.writes.changes.idx told ∙ ap (λ (f : Files). f.idx) (c.in-Ok-gather_rows.ensures.runs.reads_as told)
 
-pub returns-in-Err-edit_raised-clause-stops : goal.returns-in-Err-edit_raised-clause-stops
-returns-in-Err-edit_raised-clause-stops g c = λ told lawful.
+pub returns-in-Err-edit_raised-clause-crashes : goal.returns-in-Err-edit_raised-clause-crashes
+returns-in-Err-edit_raised-clause-crashes g c = λ told lawful.
     let e = c.in-Ok.ensures in
     let run = c.in-Ok-gather_rows.ensures.runs in
-    stops_aside g.D.Disk _ _ e.value _ _ _ told lawful (g.met.D.Disk.as_read c.args.disk.now told) run c.requires.ready
+    crashes_aside g.D.Disk _ _ e.value _ _ _ told lawful (g.met.D.Disk.as_read c.args.disk.now told) run c.requires.ready
     (planned e.value e.plan.suits.plan_is e.placed.1 c.blob.ensures.value) (rw (run.reads_as told) at (c.in-Err-edit_raised.ensures.images told))
 
 pub returns-in-Err-edit_raised-clause-reads : goal.returns-in-Err-edit_raised-clause-reads
@@ -126,13 +126,14 @@ returns-in-Ok-edit_raised g c =
           kept = w.stored.kept;
           blobs_are = λ told.
               w.stored.blobs_are told
-              ∙ ap (λ (f : Files). edited (edit.Put c.in-Ok.plan) c.blob.result.now (blobs f.pkg c.plan_blob.new.store)) (run.reads_as told) ∙ map_is file p;
+              ∙ ap (λ (f : Files). edited_blobs (edit.Put c.in-Ok.plan) c.blob.result.now (blobs f.pkg c.plan_blob.new.store)) (run.reads_as told)
+              ∙ map_is file p;
           quiet = w.stored.quiet;
           stands = w.stored.stands;
         };
-        settled = λ told image here.
+        durable = λ told image here.
             (let moved = w.writes.changes.now told image here in
-            moved.idx ∙ settled_same g.D.Disk _ _ told run (c.requires.ready.settled told) moved.from moved.was ∙ sym (w.writes.changes.idx told));
+            moved.idx ∙ durable_same g.D.Disk _ _ told run (c.requires.ready.durable told) moved.from moved.was ∙ sym (w.writes.changes.idx told));
       };
       sums = λ told.
           sums_are file p (g.D.Disk.files c.edit_raised.new.disk).pkg c.edit_raised.new.store
@@ -146,8 +147,8 @@ returns-in-Ok-edit_raised g c =
           subst (λ (old : Files). ReachesTo c.edit_raised.new.store old.pkg (g.D.Disk.files c.edit_raised.new.disk).pkg) (run.reads_as told) (w.end told);
       index = λ told. w.writes.changes.idx told ∙ ap (λ (f : Files). f.idx) (run.reads_as told);
       refused = tt;
-      stops = λ told lawful.
-          stops_aside g.D.Disk _ _ e.value _ _ _ told lawful (g.met.D.Disk.as_read c.args.disk.now told) run c.requires.ready p
+      crashes = λ told lawful.
+          crashes_aside g.D.Disk _ _ e.value _ _ _ told lawful (g.met.D.Disk.as_read c.args.disk.now told) run c.requires.ready p
           (rw (run.reads_as told) at (w.images told));
       reads = reads_put c.args.n c.args.store.now _ e.value _ c.in-Ok.plan e.plan.suits.plan_is e.placed.1 _ _
           (omega (arith, x.reads, w.writes.changes.reads.pkg));

@@ -22,7 +22,7 @@ returns-then-is_current-clause-index g c =
     record {
       current = here;
       kept = c.in-Ok.ensures.kept;
-      settled = λ told image left.
+      durable = λ told image left.
           c.requires.can.idx told image (subst (λ (t : ℕ). D.left_since a t image) looks.moment_stays ((looks.untouched told).images (D.moment b) image left))
           ∙ ap (λ (f : Files). f.idx) (sym (same told));
       rows_are = λ told lawful.
@@ -44,7 +44,7 @@ returns-in-Ok-make_index-clause-index g c =
     record {
       current = e.sealed.current;
       kept = e.sealed.kept;
-      settled = e.sealed.settled;
+      durable = e.sealed.durable;
       rows_are = λ told lawful. rows_now told;
       made = λ told stale. rows_now told;
     }

@@ -37,7 +37,8 @@ pub returns-clause-refused : goal.returns-clause-refused
 returns-clause-refused g c =
     let D = g.D.Disk in
     let looks = c.in_ok-rows.ensures.looks in
-    let Refused = λ (e : RewriteFault). rewrite.IsRefused e → (c.write_index.new.index ≡ c.args.index.now) × (c.write_index.new.disk ≡ c.rows_of.new.disk) in
+    let Refused = λ (e : RewriteFault). rewrite.IsRebuildRefused e → (c.write_index.new.index ≡ c.args.index.now)
+    × (c.write_index.new.disk ≡ c.rows_of.new.disk) in
     map_if_err c.write_index.result (λ e (p : Refused e) refusal.
     let r = p refusal in
     (r.0, λ told. ap D.files r.1 ∙ (looks.untouched told).same, ap D.moment r.1 ∙ looks.moment_stays)) c.write_index.ensures.refused

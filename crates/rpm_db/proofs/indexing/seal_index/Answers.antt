@@ -16,7 +16,7 @@ returns-clause-runs g c =
       seal = c.seal.ensures.whichever told (c.requires.here told).whole;
     })
     (λ told image left. record {
-      same = c.requires.settled told image left;
+      same = c.requires.durable told image left;
       written = c.requires.each told image left;
       some = omega (arith, (c.requires.keeps told).units, ordered_some b c.args.index.now.units c.args.index.now.second c.requires.ordered);
       seal = c.seal.ensures.whichever told (c.requires.here told).whole;

@@ -1,17 +1,17 @@
 use Rattle.std.proofs.Common.{ℕ, List, length, is_none, Err, ap, sym, subst, arith}
 use Rattle.std.proofs.lemmas.Bool.Decides.{nat_tests}
-use Rattle.rpm_db.proofs.Vocabulary.{IsFull}
+use Rattle.rpm_db.proofs.Vocabulary.{IsStoreFull}
 use Rattle.rpm_db.proofs.putting.plan_blob.Goals as goal
 
 pub returns-in-Err-StoreFull-clause-later : goal.returns-in-Err-StoreFull-clause-later
 returns-in-Err-StoreFull-clause-later c = (
   λ spent. grind (arith, nat_tests),
-  subst (λ (bs : List ℕ). IsFull c.args.store.now (is_none c.args.n) (length bs)) c.blob.ensures.value
+  subst (λ (bs : List ℕ). IsStoreFull c.args.store.now (is_none c.args.n) (length bs)) c.blob.ensures.value
       (c.in-Err-StoreFull.ensures.full (ap Err c.in-Err-StoreFull.field-0-is)).full,
 )
 
 pub returns-in-Ok-clause-later : goal.returns-in-Ok-clause-later
 returns-in-Ok-clause-later c = (
   λ spent. grind (arith, nat_tests),
-  λ full. c.in-Ok.ensures.planned.fits (subst (λ (bs : List ℕ). IsFull c.args.store.now (is_none c.args.n) (length bs)) (sym c.blob.ensures.value) full),
+  λ full. c.in-Ok.ensures.planned.fits (subst (λ (bs : List ℕ). IsStoreFull c.args.store.now (is_none c.args.n) (length bs)) (sym c.blob.ensures.value) full),
 )

@@ -6,7 +6,7 @@ use Rattle.rpm_db.proofs.Planning.{done_roomed, field_is, index_planned, map_is,
 use Rattle.rpm_db.proofs.Puts.{number_same, reads_put, rows_planned}
 use Rattle.rpm_db.proofs.Results.{cause_memory, map_ok}
 use Rattle.rpm_db.proofs.Rooms.{finds_none, finds_room}
-use Rattle.rpm_db.proofs.Unwritten.{stops_told}
+use Rattle.rpm_db.proofs.Unwritten.{crashes_told}
 use Rattle.rpm_db.proofs.putting.write_header.Goals as goal
 
 -- ---- it wasn't planned
@@ -73,13 +73,13 @@ returns-clause-done g c =
     (c.in-Ok-rows_behind.ensures ∙ ap (λ (k : ℕ). header_rows k c.args.view.now) number) in
     map_ok c.change_both.result (done_roomed D _ _ e.value _ _ _ _ _ _ _ _ _ _ (map_is file p) (field_is file p) units) c.change_both.ensures.done
 
-pub returns-clause-stops : goal.returns-clause-stops
-returns-clause-stops g c = λ told lawful has.
+pub returns-clause-crashes : goal.returns-clause-crashes
+returns-clause-crashes g c = λ told lawful has.
     let file = (g.D.Disk.files c.args.disk.now).pkg in
     let e = c.in-Ok.ensures in
-    stops_told g.D.Disk _ _ _ _ _ _ _ (state_same file _ _ e.value)
+    crashes_told g.D.Disk _ _ _ _ _ _ _ (state_same file _ _ e.value)
     (state_is file (planned e.value e.plan.suits.plan_is e.placed.1 c.blob.ensures.value))
-    (c.change_both.ensures.stops told lawful (rows_roomed g.D.Disk _ _ e.value c.args.disk.now has))
+    (c.change_both.ensures.crashes told lawful (rows_roomed g.D.Disk _ _ e.value c.args.disk.now has))
 
 pub returns-clause-reads : goal.returns-clause-reads
 returns-clause-reads g c =

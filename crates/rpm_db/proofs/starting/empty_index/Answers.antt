@@ -27,7 +27,7 @@ returns-in-Ok-rewrite-clause-empty g c = record {
   kept = search rules;
   whole = search rules;
   rows = search rules;
-  settled = search rules;
+  durable = search rules;
   reach = λ told.
       omega (
         arith,

@@ -2,7 +2,7 @@ use Rattle.std.proofs.Common.{sym, ap, ◌∙◌, subst}
 use Rattle.rpm_db.proofs.Vocabulary.{IsUnsealed, Remade, runs_weaker, SameLog, SameOutside, store, Units}
 use Rattle.rpm_pkgdb.specs.Store as pkgdb
 use Rattle.rpm_db.proofs.Emptied.{empty_unsealed}
-use Rattle.rpm_db.proofs.EmptyStops.{stops_all, stops_both, stops_first}
+use Rattle.rpm_db.proofs.EmptyCrashes.{crashes_all, crashes_both, crashes_first}
 use Rattle.rpm_db.proofs.Making.{ordered_pending}
 use Rattle.rpm_db.proofs.Opened.{still_quiet}
 use Rattle.rpm_db.proofs.SameLogs.{log_made, log_sealed}
@@ -18,7 +18,8 @@ seal_index-requires-clause-here g c = λ told.
     let idx = m.writes.changes.idx told in
     subst (λ (u : Units). IsUnsealed 1 c.in-Ok.index.pending (g.D.Disk.files c.make.new.disk).pkg u) (sym idx)
     (empty_unsealed c.in-Ok.index.pending (g.D.Disk.files c.make.new.disk).pkg (g.D.Disk.files c.empty_index.new.disk).idx c.args.store.now
-    (subst (pkgdb.Keeps (g.D.Disk.files c.make.new.disk).pkg) m.ok (m.made told).written.kept) (c.in-Ok.ensures.empty.whole told) (c.in-Ok.ensures.empty.rows
+    (subst (pkgdb.KeepsStore (g.D.Disk.files c.make.new.disk).pkg) m.ok (m.made told).written.kept) (c.in-Ok.ensures.empty.whole told)
+    (c.in-Ok.ensures.empty.rows
     told))
 
 pub seal_index-requires-clause-each : goal.seal_index-requires-clause-each
@@ -27,23 +28,24 @@ seal_index-requires-clause-each g c = λ told image here.
     let idx = m.writes.changes.idx told in
     subst (λ (u : Units). IsUnsealed 1 c.in-Ok.index.pending image.pkg u) (sym idx)
     (empty_unsealed c.in-Ok.index.pending image.pkg (g.D.Disk.files c.empty_index.new.disk).idx c.args.store.now
-    (subst (pkgdb.Keeps image.pkg) m.ok ((m.made told).written.quiet image here).keeps) (c.in-Ok.ensures.empty.whole told) (c.in-Ok.ensures.empty.rows told))
+    (subst (pkgdb.KeepsStore image.pkg) m.ok ((m.made told).written.quiet image here).keeps) (c.in-Ok.ensures.empty.whole told)
+    (c.in-Ok.ensures.empty.rows told))
 
-pub returns-in-Err-clause-stops : goal.returns-in-Err-clause-stops
-returns-in-Err-clause-stops g c = λ told. stops_first g.D.Disk _ told _ _ c.requires.can c.in-Err.ensures.runs
+pub returns-in-Err-clause-crashes : goal.returns-in-Err-clause-crashes
+returns-in-Err-clause-crashes g c = λ told. crashes_first g.D.Disk _ told _ _ c.requires.can c.in-Err.ensures.runs
 
-pub returns-in_default-clause-stops : goal.returns-in_default-clause-stops
-returns-in_default-clause-stops g c = λ told.
-    stops_both g.D.Disk _ told _ _ _ _ c.requires.can c.in-Ok.ensures.runs c.in-Ok.ensures.empty (c.in_default.ensures.images told)
+pub returns-in_default-clause-crashes : goal.returns-in_default-clause-crashes
+returns-in_default-clause-crashes g c = λ told.
+    crashes_both g.D.Disk _ told _ _ _ _ c.requires.can c.in-Ok.ensures.runs c.in-Ok.ensures.empty (c.in_default.ensures.images told)
 
-pub returns-in-Ok-seal_index-clause-stops : goal.returns-in-Ok-seal_index-clause-stops
-returns-in-Ok-seal_index-clause-stops g c = λ told.
-    stops_all g.D.Disk _ told _ _ _ _ c.requires.can c.in-Ok.ensures.runs c.in-Ok.ensures.empty (c.in-Ok-make.ensures.images told)
+pub returns-in-Ok-seal_index-clause-crashes : goal.returns-in-Ok-seal_index-clause-crashes
+returns-in-Ok-seal_index-clause-crashes g c = λ told.
+    crashes_all g.D.Disk _ told _ _ _ _ c.requires.can c.in-Ok.ensures.runs c.in-Ok.ensures.empty (c.in-Ok-make.ensures.images told)
     g.met.D.Disk.earlier _ (c.in-Ok-seal_index.ensures.runs.any_moment told)
 
-pub returns-in-Err-seal_index-clause-stops : goal.returns-in-Err-seal_index-clause-stops
-returns-in-Err-seal_index-clause-stops g c = λ told.
-    stops_all g.D.Disk _ told _ _ _ _ c.requires.can c.in-Ok.ensures.runs c.in-Ok.ensures.empty (c.in-Ok-make.ensures.images told)
+pub returns-in-Err-seal_index-clause-crashes : goal.returns-in-Err-seal_index-clause-crashes
+returns-in-Err-seal_index-clause-crashes g c = λ told.
+    crashes_all g.D.Disk _ told _ _ _ _ c.requires.can c.in-Ok.ensures.runs c.in-Ok.ensures.empty (c.in-Ok-make.ensures.images told)
     g.met.D.Disk.earlier _ (c.in-Err-seal_index.ensures.runs.any_moment told)
 
 pub returns-in-Ok-seal_index-clause-empty : goal.returns-in-Ok-seal_index-clause-empty
@@ -57,7 +59,7 @@ returns-in-Ok-seal_index-clause-empty g c =
       current = s.sealed.current;
       units = s.sealed.kept;
       index_of = s.sealed.index_of;
-      settled = s.sealed.settled;
+      durable = s.sealed.durable;
     }
 
 pub returns-in-Err-clause-runs : goal.returns-in-Err-clause-runs

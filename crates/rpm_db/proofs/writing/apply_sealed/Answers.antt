@@ -1,5 +1,5 @@
 use Rattle.std.proofs.Common.{refl, ap, arith, rules}
-use Rattle.rpm_db.proofs.Vocabulary.{changes_between, changes_weaker, Idx, IndexTo, seal_unit, SealedOrSame, State, VoidOrSameSeal}
+use Rattle.rpm_db.proofs.Vocabulary.{changes_between, changes_weaker, Idx, IndexTo, seal_unit, SealedOrSame, IndexState, VoidOrSameSeal}
 use Rattle.rpm_db.proofs.Making.{ordered_some, ordered_pending}
 use Rattle.rpm_db.proofs.Results.{three_ok}
 use Rattle.rpm_db.proofs.SealedRows.{IsWritten, unsealed_yet, sealed_now, sealing_rows, is_written}
@@ -37,14 +37,14 @@ returns g c =
     record {
       applied = three_ok c.seal.result (λ current is left. record {
         current = current ordered;
-        grows = omega (arith, ap (λ (s : State). s.units) is, e.value.grows);
+        grows = omega (arith, ap (λ (s : IndexState). s.units) is, e.value.grows);
         kept = left.kept;
         sealed = λ told.
             sealed_now n work file unit mid (D.files c.seal.new.disk).idx (ap (seal_unit n) e.value.pending)
             (is_written n work file i.pending mid mid e.value.pending (e.left.written told) (omega (arith, (e.left.kept told).units, some))
             (c.seal.ensures.whichever told)
             refl) (left.written told);
-        settled = left.settled;
+        durable = left.durable;
       }) c.seal.ensures.current c.seal.ensures.state c.seal.ensures.left;
       writes = record {
         changes = changes_between D Idx g.met.D.Disk.follows_trans VoidOrSameSeal (SealedOrSame unit)
@@ -58,7 +58,7 @@ returns g c =
               (e.left.kept told).units,
               some,
             ))
-            (c.seal.ensures.whichever told) (e.left.settled told image left)) e.writes.changes c.seal.ensures.writes.changes;
+            (c.seal.ensures.whichever told) (e.left.durable told image left)) e.writes.changes c.seal.ensures.writes.changes;
         cause = search rules;
       };
     }

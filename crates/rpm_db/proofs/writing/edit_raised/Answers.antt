@@ -1,6 +1,6 @@
 use Rattle.std.proofs.Common.{◌+◌, ◌≤◌, IsTrue, arith, ap, ◌∙◌, rules}
-use Rattle.rpm_db.proofs.Vocabulary.{Anything, BlobMap, blobs, BlobsTo, changes_then, changes_weaker, edit_cost, edited, edited_number, EditsTo, field_edited, IsEdited, Pkg}
-use Rattle.rpm_db.proofs.Vocabulary.{RaisesTo, SameOutside, stops_then, stops_weaker, Store}
+use Rattle.rpm_db.proofs.Vocabulary.{Anything, BlobMap, blobs, BlobsTo, changes_then, changes_weaker, edit_cost, edited_blobs, edited_number, EditsTo, field_edited, IsEdited, Pkg}
+use Rattle.rpm_db.proofs.Vocabulary.{RaisesTo, SameOutside, crashes_then, crashes_weaker, Store}
 use Rattle.rpm_db.proofs.Results.{map_ok}
 use Rattle.rpm_db.proofs.Raised.{cost_raised, edits_to, raises_to}
 use Rattle.rpm_db.proofs.Sums.{sums_since}
@@ -20,8 +20,8 @@ returns-in-Err-clause-images g c = λ told quiet.
     let st = c.args.store.now in
     let file = (D.files c.args.disk.now).pkg in
     let next = field_edited c.args.edit st.field in
-    let after = edited c.args.edit c.args.blob.now (blobs file st) in
-    stops_weaker D Pkg (RaisesTo st (st.generation + 1) file) (BlobsTo st.generation st.field next (blobs file st) after)
+    let after = edited_blobs c.args.edit c.args.blob.now (blobs file st) in
+    crashes_weaker D Pkg (RaisesTo st (st.generation + 1) file) (BlobsTo st.generation st.field next (blobs file st) after)
     c.args.disk.now c.raise.new.disk (raises_to st next after file) (c.in-Err.ensures.images told quiet)
 
 pub returns-in-Ok-clause-images : goal.returns-in-Ok-clause-images
@@ -35,16 +35,16 @@ returns-in-Ok-clause-images g c = λ told quiet.
     let mid = (D.files b).pkg in
     let raised = c.raise.new.self in
     let next = field_edited c.args.edit st.field in
-    let after = edited c.args.edit c.args.blob.now (blobs file st) in
+    let after = edited_blobs c.args.edit c.args.blob.now (blobs file st) in
     let to = BlobsTo st.generation st.field next (blobs file st) after in
     let e = c.in-Ok.ensures in
-    let first = stops_weaker D Pkg (RaisesTo st (st.generation + 1) file) to a b (raises_to st next after file) (e.images told quiet) in
+    let first = crashes_weaker D Pkg (RaisesTo st (st.generation + 1) file) to a b (raises_to st next after file) (e.images told quiet) in
     let second =
-    stops_weaker D Pkg (EditsTo raised c.args.edit c.args.blob.now mid) to b d
+    crashes_weaker D Pkg (EditsTo raised c.args.edit c.args.blob.now mid) to b d
     (λ image. edits_to st.generation st.field (blobs file st) raised mid image (ap (λ (v : Store). v.generation) e.ok)
-    (ap (λ (v : Store). v.field) e.ok) (e.raised told).written.blobs_are c.args.edit c.args.blob.now) (c.edit_store.ensures.stops told (e.raised
+    (ap (λ (v : Store). v.field) e.ok) (e.raised told).written.blobs_are c.args.edit c.args.blob.now) (c.edit_store.ensures.crashes told (e.raised
     told).written.quiet) in
-    stops_then D Pkg told (SameOutside 0 1) to 0 a b d e.writes.changes first second
+    crashes_then D Pkg told (SameOutside 0 1) to 0 a b d e.writes.changes first second
 
 -- ---- what was written
 
@@ -78,7 +78,7 @@ returns-in-Ok-clause-stored g c =
     map_ok c.edit_store.result (λ (e : IsTrue D.tells → IsEdited D c.raise.new.disk c.edit_store.new.disk raised new c.args.edit c.args.blob.now). record {
       kept = λ told. (e told).written.kept;
       blobs_are = λ told.
-          (e told).written.blobs_are ∙ ap (λ (m : BlobMap). edited c.args.edit c.args.blob.now m) (c.in-Ok.ensures.raised told).written.blobs_are;
+          (e told).written.blobs_are ∙ ap (λ (m : BlobMap). edited_blobs c.args.edit c.args.blob.now m) (c.in-Ok.ensures.raised told).written.blobs_are;
       quiet = λ told. (e told).written.quiet;
       stands = λ told. (e told).written.stands;
     }) c.edit_store.ensures.edited

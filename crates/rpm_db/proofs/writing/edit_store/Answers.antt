@@ -1,18 +1,18 @@
 use Rattle.std.proofs.Common.{◌≡◌, IsTrue}
-use Rattle.rpm_db.proofs.Vocabulary.{erased}
+use Rattle.rpm_db.proofs.Vocabulary.{without_number}
 use Rattle.rpm_db.proofs.Results.{both_ok}
 use Rattle.rpm_db.proofs.Sums.{sums_erased, sums_put}
 use Rattle.rpm_pkgdb.specs.Rewritten.{IsErased}
 use Rattle.rpm_db.proofs.writing.edit_store.Goals as goal
 
-pub returns-in-Ok-clause-stops : goal.returns-in-Ok-clause-stops
-returns-in-Ok-clause-stops g c = rw c.in-Put.is (λ told quiet. (c.in-Ok.ensures.stops told quiet).images)
+pub returns-in-Ok-clause-crashes : goal.returns-in-Ok-clause-crashes
+returns-in-Ok-clause-crashes g c = rw c.in-Put.is (λ told quiet. (c.in-Ok.ensures.crashes told quiet).images)
 
-pub returns-in-Err-clause-stops : goal.returns-in-Err-clause-stops
-returns-in-Err-clause-stops g c = rw c.in-Put.is (λ told quiet. (c.in-Err.ensures.stops told quiet).images)
+pub returns-in-Err-clause-crashes : goal.returns-in-Err-clause-crashes
+returns-in-Err-clause-crashes g c = rw c.in-Put.is (λ told quiet. (c.in-Err.ensures.crashes told quiet).images)
 
-pub returns-in-Erase-clause-stops : goal.returns-in-Erase-clause-stops
-returns-in-Erase-clause-stops g c = rw c.in-Erase.is (λ told quiet. (c.erase.ensures.stops told quiet).images)
+pub returns-in-Erase-clause-crashes : goal.returns-in-Erase-clause-crashes
+returns-in-Erase-clause-crashes g c = rw c.in-Erase.is (λ told quiet. (c.erase.ensures.crashes told quiet).images)
 
 pub returns-in-Ok-clause-edited : goal.returns-in-Ok-clause-edited
 returns-in-Ok-clause-edited g c = rw c.in-Put.is (λ told.
@@ -31,7 +31,7 @@ returns-in-Erase-clause-edited g c =
     let st = c.args.store.now in
     let new = c.erase.new.self in
     rw c.in-Erase.is (both_ok c.erase.result
-    (λ (is : new ≡ erased c.in-Erase.n st) (gone : IsTrue D.tells → IsErased D c.args.disk.now c.erase.new.disk st new c.in-Erase.n) told. record {
+    (λ (is : new ≡ without_number c.in-Erase.n st) (gone : IsTrue D.tells → IsErased D c.args.disk.now c.erase.new.disk st new c.in-Erase.n) told. record {
       written = (gone told).written;
       reach = (gone told).reach;
       sums = sums_erased D _ _ _ _ (c.requires.ready.keeps told) c.requires.ready.made c.in-Erase.n is (gone told);

@@ -1,4 +1,4 @@
-use Rattle.rpm_exercise.proofs.Vocabulary.{err_is, list_settled, list_stopped, list_unsettled, owing_begun, quiet_stopped, state_in}
+use Rattle.rpm_exercise.proofs.Vocabulary.{err_is, list_durable, list_stopped, list_unsettled, owing_begun, quiet_stopped, state_in}
 use Rattle.rpm_exercise.proofs.Parts.{all_is}
 use Rattle.rpm_exercise.proofs.Through.{index_changes}
 use Rattle.rpm_exercise.proofs.rounds.change_all.Goals as goal
@@ -24,8 +24,8 @@ returns g c =
     let b = c.begin-batch.ensures in
     let f = c.in_ok-finish.ensures in
     rw (← all) (record {
-      course = list_settled g.D.Disk c.requires.ready b.goes b.order b.sealed b.none (λ told. told) g.met.D.Disk.follows_trans c.finish.new.db
-          (rw b.same at c.in_ok-tally.ensures.course) f.left.indexed f.runs f.cause.later f.store f.packages f.settled f.whole;
+      course = list_durable g.D.Disk c.requires.ready b.goes b.order b.sealed b.none (λ told. told) g.met.D.Disk.follows_trans c.finish.new.db
+          (rw b.same at c.in_ok-tally.ensures.course) f.left.indexed f.runs f.cause.later f.store f.packages f.has_rows f.whole;
       spent = tt;
       kinds = tt;
     })

@@ -1,5 +1,5 @@
 use Rattle.std.proofs.Common.{true, refl, arith}
-use Rattle.rpm_exercise.proofs.Vocabulary.{cause_then, changes, current_left, err_is, other_stop, remade_log, remade_then, room, state_in}
+use Rattle.rpm_exercise.proofs.Vocabulary.{cause_then, changes, current_left, err_is, other_stop, remade_log, remade_then, store_of, state_in}
 use Rattle.rpm_exercise.proofs.Vocabulary.{state_remade}
 use Rattle.rpm_exercise.proofs.Halts.{asking_stop, reading_is}
 use Rattle.rpm_exercise.proofs.running.exercise_all.Goals as goal
@@ -53,6 +53,6 @@ returns-in_err-renew-clause-limits g c = λ told.
       mid = g.D.Disk.files c.args.disk.now;
       same = refl;
       made = omega arith;
-      holds = other_stop true s (room c.args.db.now) (room c.renew.new.db) (changes c.args.n s) c.in_err-renew.field-0.0
+      holds = other_stop true s (store_of c.args.db.now) (store_of c.renew.new.db) (changes c.args.n s) c.in_err-renew.field-0.0
           (reading_is true (g.D.Disk.files c.args.disk.now).idx c.in_err-renew.field-0.0 said.kinds).0;
     })

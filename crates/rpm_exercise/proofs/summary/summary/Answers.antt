@@ -1,5 +1,5 @@
 use Rattle.std.proofs.Common.{append_assoc, codes}
-use Rattle.rpm_exercise.proofs.Vocabulary.{capability_lines, count_line, digest_line, err_is, packages_in, picked, summary}
+use Rattle.rpm_exercise.proofs.Vocabulary.{capability_lines, count_line, digest_line, err_is, packages_in, picked_count, summary}
 use Rattle.rpm_select.specs.declared.selection.Selection.TheVariants as question
 use Rattle.rpm_exercise.proofs.Asking.{askable_on, asks_full, asks_then}
 use Rattle.rpm_exercise.proofs.summary.summary.Goals as goal
@@ -36,4 +36,4 @@ returns-clause-told g c = λ told rows.
     let lines = rw same at (c.in_ok-push_capabilities.ensures.told told (rw same rows)) in
     let packages = packages_in g.D.Disk c.args.disk.now c.args.db.now in
     rw (c.in_ok-push_digest.ensures, lines, c.in_ok-push_count.ensures, c.new-text.ensures.items, found.0, found.1)
-    (append_assoc (count_line (codes "packages") (picked packages question.All)) (capability_lines packages) (digest_line packages))
+    (append_assoc (count_line (codes "packages") (picked_count packages question.All)) (capability_lines packages) (digest_line packages))

@@ -1,5 +1,5 @@
 use Rattle.std.proofs.Common.{[], length, refl, ap, ◌∙◌, Ok, Err, arith}
-use Rattle.rpm_exercise.proofs.Vocabulary.{exported, flat_map, from_one, looks_run, packages_in, picks_from_one, sha256}
+use Rattle.rpm_exercise.proofs.Vocabulary.{exported_bytes, flat_map, from_one, looks_run, packages_in, picks_from_one, sha256}
 use Rattle.rpm_exercise.proofs.Asking.{askable_on, asks_call, asks_then, looks_index}
 use Rattle.rpm_exercise.proofs.Walked.{walked_all, walked_more}
 use Rattle.rpm_exercise.proofs.survey.survey.Goals as goal
@@ -50,7 +50,7 @@ returns-in-Ok-None-clause-told g c = λ told rows.
     let last = rw c.in-Ok-None.field-0-is at c.in-Ok-None.ensures in
     let none = rw (inv.asks.runs.reads_as told) at (last.told told) goes.0 in
     let all = walked_all _ _ _ _ none goes.1 in
-    (goes.1.counted ∙ ap length all, c.finalize-digest.ensures _ goes.1.fed ∙ ap (λ l. sha256 (flat_map exported l)) all)
+    (goes.1.counted ∙ ap length all, c.finalize-digest.ensures _ goes.1.fed ∙ ap (λ l. sha256 (flat_map exported_bytes l)) all)
 
 pub returns-in-Ok-None-clause-asks : goal.returns-in-Ok-None-clause-asks
 returns-in-Ok-None-clause-asks g c =

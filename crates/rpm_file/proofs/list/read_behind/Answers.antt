@@ -1,7 +1,7 @@
 use Rattle.std.proofs.Common.{◌≡◌, ◌<◌, ◌++◌, ◌∙◌, ap, length, take, sym, List, ℕ, arith}
 use Rattle.std.proofs.lemmas.List.{length-take-le}
 use Rattle.std.proofs.lemmas.Result.{err_from_is_err_and}
-use Rattle.rpm_file.proofs.Vocabulary.{front_header, left}
+use Rattle.rpm_file.proofs.Vocabulary.{front_header, bytes_left}
 use Rattle.rpm_file.proofs.Filled.{of_ok}
 use Rattle.rpm_file.proofs.Listed.{bad_front, whole_front, cut_front, told_fault, size_fault, no_fault, begun}
 use Rattle.rpm_file.proofs.list.read_behind.Goals as goal
@@ -9,7 +9,7 @@ use Rattle.rpm_file.proofs.list.read_behind.Goals as goal
 pub returns-in_err-size-clause-answers : goal.returns-in_err-size-clause-answers
 returns-in_err-size-clause-answers g c = λ told.
     let p = err_from_is_err_and c.from_residual.result c.from_residual.ensures.1 in
-    let bytes = c.args.intro.now ++ left (g.S.Shelf.rest c.args.shelf.now) in
+    let bytes = c.args.intro.now ++ bytes_left (g.S.Shelf.rest c.args.shelf.now) in
     rw (p.1, p.2) (told_fault (front_header bytes) c.in_err-size.field-0.0
     (bad_front c.args.intro.now _ c.in_err-size.field-0.0 c.requires c.in_err-size.ensures.value))
 

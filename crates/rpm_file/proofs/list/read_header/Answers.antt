@@ -1,4 +1,4 @@
-use Rattle.rpm_file.proofs.Vocabulary.{browses_then, left}
+use Rattle.rpm_file.proofs.Vocabulary.{browses_then, bytes_left}
 use Rattle.rpm_file.proofs.Extents.{intro_alone, intro_then}
 use Rattle.rpm_file.proofs.Listed.{behind_intro}
 use Rattle.rpm_file.proofs.list.read_header.Goals as goal
@@ -25,4 +25,4 @@ returns-then-begins-clause-extent g c = λ told.
 pub returns-in_err-begins-clause-extent : goal.returns-in_err-begins-clause-extent
 returns-in_err-begins-clause-extent g c = λ told.
     let old = g.S.Shelf.rest c.args.shelf.now in
-    intro_alone old (g.S.Shelf.rest c.take_intro.new.shelf) (left old) (c.take_intro.ensures.extent told)
+    intro_alone old (g.S.Shelf.rest c.take_intro.new.shelf) (bytes_left old) (c.take_intro.ensures.extent told)

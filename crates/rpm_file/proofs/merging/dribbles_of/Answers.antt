@@ -1,5 +1,5 @@
 use Rattle.std.proofs.Common.{◌∙◌, ◌++◌, ◌∷◌, [], sym, subst, ap, List}
-use Rattle.rpm_file.proofs.Vocabulary.{dribble, HasTags, Item, retagged}
+use Rattle.rpm_file.proofs.Vocabulary.{dribble, HasTags, Item, with_tag}
 use Rattle.rpm_file.proofs.Merged.{next_joins, next_passed}
 use Rattle.rpm_file.proofs.merging.dribbles_of.Goals as goal
 use Rattle.rpm_file.proofs.merging.dribbles_of.Goals.{in-Some+in_ok-push_entry, in_default}
@@ -14,7 +14,7 @@ loop-i-preserved c =
     elim c.match-tag_for.branch [
       | in-Some+in_ok-push_entry w ↦
           w.builder-is ∙ w.in_ok-push_entry.ensures.ok
-          ∙ ap (λ (es : List Item). es ++ retagged w.in-Some.tag e ∷ []) c.loop-i.invariant
-          ∙ sym (next_joins (dribble main) signature i e (retagged w.in-Some.tag e) c.entry-entry.ensures (w.in-Some.ensures main told).0)
+          ∙ ap (λ (es : List Item). es ++ with_tag w.in-Some.tag e ∷ []) c.loop-i.invariant
+          ∙ sym (next_joins (dribble main) signature i e (with_tag w.in-Some.tag e) c.entry-entry.ensures (w.in-Some.ensures main told).0)
       | in_default w ↦ w.builder-is ∙ c.loop-i.invariant ∙ sym (next_passed (dribble main) signature i e c.entry-entry.ensures (w.in_default.ensures main told))
     ]

@@ -1,5 +1,5 @@
 use Rattle.std.proofs.Common.{◌+◌, length, subst, sym}
-use Rattle.rpm_file.proofs.Vocabulary.{dribbled_data, IsMadeFault, with_entries}
+use Rattle.rpm_file.proofs.Vocabulary.{dribbled_data, IsMadeFault, header_with_entries}
 use Rattle.rpm_file.proofs.Merged.{keeps_limits, made_bytes, made_not}
 use Rattle.rpm_file.proofs.merging.with_entries.Goals as goal
 
@@ -16,5 +16,5 @@ returns-in-Err c =
     let main = c.args.main.now in
     let more = c.args.more.now in
     let w = c.with_dribbles.ensures in
-    subst (IsMadeFault (with_entries main more)) (sym c.fault_of.ensures)
+    subst (IsMadeFault (header_with_entries main more)) (sym c.fault_of.ensures)
     (made_not c.with_dribbles.result c.in-Err.fault main more c.in-Err.is w.too_many w.too_much)

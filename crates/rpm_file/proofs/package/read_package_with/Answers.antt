@@ -1,5 +1,5 @@
 use Rattle.std.proofs.Common.{◌≡◌, Result, Ok, Err, ap, ◌∙◌, refl, sym}
-use Rattle.rpm_file.proofs.Vocabulary.{behind_lead, behind_signature, browses_then, FileFault, headed, headed_with, Header, header, HeaderFault, IsErrAnd, left, MatchResult, package_with}
+use Rattle.rpm_file.proofs.Vocabulary.{behind_lead, behind_signature, browses_then, FileFault, headed_part, headed_with, Header, header, HeaderFault, IsErrAnd, bytes_left, MatchResult, package_with}
 use Rattle.rpm_file.proofs.Vocabulary.{Signature, stamp_items}
 use Rattle.std.proofs.lemmas.Result.{err_from_is_err_and}
 use Rattle.rpm_file.specs.declared.fault.HeaderKind.TheVariants as part
@@ -23,7 +23,7 @@ err_before (Err e) named is f was = let p = err_from_is_err_and named is in (e, 
 
 pub returns-in_err-skip_lead-clause-answers : goal.returns-in_err-skip_lead-clause-answers
 returns-in_err-skip_lead-clause-answers g c = λ told.
-    let bytes = left (g.S.Shelf.rest c.args.shelf.now) in
+    let bytes = bytes_left (g.S.Shelf.rest c.args.shelf.now) in
     let more = stamp_items c.args.stamps.now in
     let p = err_from_is_err_and c.from_residual.result c.from_residual.ensures.1 in
     rw (p.1, p.2) (passed (behind_lead bytes) (package_with more bytes) c.in_err-skip_lead.field-0.0
@@ -31,12 +31,12 @@ returns-in_err-skip_lead-clause-answers g c = λ told.
 
 pub returns-in_err-blob-clause-answers : goal.returns-in_err-blob-clause-answers
 returns-in_err-blob-clause-answers g c = λ told.
-    let bytes = left (g.S.Shelf.rest c.args.shelf.now) in
+    let bytes = bytes_left (g.S.Shelf.rest c.args.shelf.now) in
     let more = stamp_items c.args.stamps.now in
-    let mid = left (g.S.Shelf.rest c.skip_lead.new.shelf) in
+    let mid = bytes_left (g.S.Shelf.rest c.skip_lead.new.shelf) in
     let p = err_from_is_err_and c.from_residual-in_err-blob.result c.from_residual-in_err-blob.ensures.1 in
     let lead = c.in_ok-skip_lead.ensures.answers told in
-    rw (p.1, p.2) (passed (headed part.Signature mid) (package_with more bytes) c.in_err-blob.field-0.0
+    rw (p.1, p.2) (passed (headed_part part.Signature mid) (package_with more bytes) c.in_err-blob.field-0.0
     (λ f is. ap (headed_with more) (signature_fault bytes mid f lead is))
     (c.in_err-blob.ensures.answers told))
 
@@ -46,10 +46,10 @@ returns-in_err-blob-clause-browses g c = browses_then g.S.Shelf
 
 pub returns-in_err-signature-clause-answers : goal.returns-in_err-signature-clause-answers
 returns-in_err-signature-clause-answers g c = λ told.
-    let bytes = left (g.S.Shelf.rest c.args.shelf.now) in
+    let bytes = bytes_left (g.S.Shelf.rest c.args.shelf.now) in
     let more = stamp_items c.args.stamps.now in
-    let mid = left (g.S.Shelf.rest c.skip_lead.new.shelf) in
-    let rest = left (g.S.Shelf.rest c.read_part.new.shelf) in
+    let mid = bytes_left (g.S.Shelf.rest c.skip_lead.new.shelf) in
+    let rest = bytes_left (g.S.Shelf.rest c.read_part.new.shelf) in
     let p = err_from_is_err_and c.from_residual-in_err-signature.result c.from_residual-in_err-signature.ensures.1 in
     let q = err_before c.parse.result c.map_err.result c.map_err.ensures.cases c.in_err-signature.field-0.0 c.in_err-signature.was in
     rw (p.1, p.2, q.2) (ap (headed_with more) (signature_bad bytes mid c.in_ok-blob.blob.items rest (c.in_ok-skip_lead.ensures.answers told)
@@ -67,7 +67,7 @@ returns-clause-answers g c = λ told.
     let mid = g.S.Shelf.rest c.read_part.new.shelf in
     let new = g.S.Shelf.rest c.read_main.new.shelf in
     let parsed = ok_before c.parse.result c.map_err.result c.map_err.ensures.cases c.in_ok-signature.signature c.in_ok-signature.was in
-    let whole = signature_good (left old) (left lead) c.in_ok-blob.blob.items (left mid) (c.in_ok-skip_lead.ensures.answers told)
+    let whole = signature_good (bytes_left old) (bytes_left lead) c.in_ok-blob.blob.items (bytes_left mid) (c.in_ok-skip_lead.ensures.answers told)
     (c.in_ok-blob.ensures.answers told) c.in_ok-signature.signature (sym parsed ∙ c.parse.ensures.value ∙ ap header c.deref.ensures.value) in
     whole_answers (λ bytes. headed_with more (behind_signature c.in_ok-signature.signature bytes)) (package_with more) old mid new c.read_main.result
     (ap (headed_with more) whole) (c.read_main.ensures.answers told)
@@ -101,7 +101,7 @@ returns-clause-extent g c = λ told.
     let s = c.in_ok-signature.signature in
     let skipped = c.in_ok-skip_lead.ensures.answers told in
     let parsed = ok_before c.parse.result c.map_err.result c.map_err.ensures.cases s c.in_ok-signature.was in
-    let found = headed_is part.Signature (left lead) c.in_ok-blob.blob.items (left mid) (Ok s) (c.in_ok-blob.ensures.answers told)
+    let found = headed_is part.Signature (bytes_left lead) c.in_ok-blob.blob.items (bytes_left mid) (Ok s) (c.in_ok-blob.ensures.answers told)
     (sym parsed ∙ c.parse.ensures.value ∙ ap header c.deref.ensures.value) in
     main_then old lead mid (g.S.Shelf.rest c.read_main.new.shelf) s (c.skip_lead.ensures.extent told) skipped (c.read_part.ensures.extent told) found
     (c.read_main.ensures.extent told)

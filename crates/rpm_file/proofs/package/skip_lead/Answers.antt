@@ -1,6 +1,6 @@
 use Rattle.std.proofs.Common.{sym}
 use Rattle.std.proofs.lemmas.Result.{err_from_is_err_and}
-use Rattle.rpm_file.proofs.Vocabulary.{behind_lead, left}
+use Rattle.rpm_file.proofs.Vocabulary.{behind_lead, bytes_left}
 use Rattle.rpm_file.proofs.Packaged.{lead_taken, lead_wrong, lead_short, taken_fault}
 use Rattle.rpm_file.proofs.package.skip_lead.Goals as goal
 
@@ -10,8 +10,8 @@ returns-in_err-take_all-clause-answers g c = λ told.
     let new = g.S.Shelf.rest c.take_all.new.shelf in
     let lead = c.take_all.new.into in
     let p = err_from_is_err_and c.from_residual.result c.from_residual.ensures.1 in
-    rw (p.1, p.2) (taken_fault (Unit {0}) (behind_lead (left old)) old new lead c.in_err-take_all.field-0.0
-    (lead_short (left old) lead c.take_all.auto.into) (c.in_err-take_all.ensures.answers told))
+    rw (p.1, p.2) (taken_fault (Unit {0}) (behind_lead (bytes_left old)) old new lead c.in_err-take_all.field-0.0
+    (lead_short (bytes_left old) lead c.take_all.auto.into) (c.in_err-take_all.ensures.answers told))
 
 pub returns-then-is_lead-clause-answers : goal.returns-then-is_lead-clause-answers
 returns-then-is_lead-clause-answers g c = λ told.

@@ -1,6 +1,6 @@
 use Rattle.std.proofs.Common.{◌<◌, length, get_or, refl, arith}
 use Rattle.std.proofs.lemmas.List.{length-map}
-use Rattle.rpm_graph.proofs.Vocabulary.{rows_of}
+use Rattle.rpm_graph.proofs.Vocabulary.{row_lists}
 use Rattle.rpm_graph.proofs.Gathering.{ends_skip, ends_more}
 use Rattle.rpm_graph.proofs.grouping.put_ends.Goals as goal
 use Rattle.rpm_graph.proofs.grouping.put_ends.Goals.{then-classes-to+in_ok-push_link, else-classes-to}
@@ -10,8 +10,8 @@ loop-to-preserved c =
     let classes = c.args.classes.now in
     let row = c.args.row.now in
     let k = c.loop-to.to-index in
-    let before = rows_of c.args.targets.now in
-    let now = rows_of c.loop-to.targets in
+    let before = row_lists c.args.targets.now in
+    let now = row_lists c.loop-to.targets in
     let inside : c.args.class < length before = omega (arith, c.requires.inside, length-map c.args.targets.now (λ r. r.items)) in
     elim c.if-classes-to.branch [
       | then-classes-to+in_ok-push_link w ↦

@@ -1,5 +1,5 @@
-use Rattle.rpm_graph.proofs.Vocabulary.{HaveMembers, rows_of}
+use Rattle.rpm_graph.proofs.Vocabulary.{HaveMembers, row_lists}
 use Rattle.rpm_graph.proofs.grouping.put_numbers.Given as goal
 
 abbrev pub invariant-loop-place : goal.invariant-loop-place
-invariant-loop-place l = HaveMembers l.numbers l.classes l.place (rows_of l.members)
+invariant-loop-place l = HaveMembers l.numbers l.classes l.place (row_lists l.members)

@@ -1,7 +1,7 @@
 use Rattle.std.proofs.Common.{◌≡◌, length, ap, subst, ◌∙◌, arith, inl, inr}
 use Rattle.std.proofs.lemmas.Bool.{cases_lt}
 use Rattle.std.proofs.lemmas.List.{length-map}
-use Rattle.rpm_graph.proofs.Vocabulary.{IsPlaced, listed_at, rows_of}
+use Rattle.rpm_graph.proofs.Vocabulary.{IsReadyOrWaits, listed_at, row_lists}
 use Rattle.rpm_graph.proofs.Beginning.{begun, none_listed}
 use Rattle.rpm_graph.proofs.listing.begin.Goals as goal
 
@@ -9,7 +9,7 @@ pub loop-class-init : goal.loop-class-init
 loop-class-init c =
     let b = c.in_ok-listing.ensures in
     record {
-      underway = begun (rows_of c.args.ends.now) c.args.leasts.now c.in_ok-listing.listing (length c.args.ends.now)
+      underway = begun (row_lists c.args.ends.now) c.args.leasts.now c.in_ok-listing.listing (length c.args.ends.now)
           (length-map c.args.ends.now (λ r. r.items)) b;
       listed = b.listed;
       placed = λ x lt. absurd (omega (arith, lt));
@@ -24,7 +24,7 @@ loop-class-preserved c =
       listed = e.same ∙ c.loop-class.invariant.listed;
       placed = λ x lt. elim (cases_lt x i) [
         | inl less ↦ e.keeps x (c.loop-class.invariant.placed x less)
-        | inr end ↦ let here : i ≡ x = omega (arith, lt, end) in subst (λ y. IsPlaced c.args.leasts.now c.settle.new.self y) here e.placed
+        | inr end ↦ let here : i ≡ x = omega (arith, lt, end) in subst (λ y. IsReadyOrWaits c.args.leasts.now c.settle.new.self y) here e.placed
       ];
     }
 

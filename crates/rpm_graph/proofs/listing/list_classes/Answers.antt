@@ -1,5 +1,5 @@
 use Rattle.std.proofs.Common.{◌≡◌, ℕ, ◌<◌, ◌++◌, ◌∷◌, [], true, false, suc, length, set, inl, inr, refl, sym, ap, subst, ◌∙◌, arith}
-use Rattle.rpm_graph.proofs.Vocabulary.{Contains, IsPlaced, listed_at, Listing, rows_of}
+use Rattle.rpm_graph.proofs.Vocabulary.{Contains, IsReadyOrWaits, listed_at, Listing, row_lists}
 use Rattle.std.proofs.lemmas.Bool.{cases_lt, cases_eq}
 use Rattle.std.proofs.lemmas.List.{length-map}
 use Rattle.std.proofs.lemmas.List.Elements.{Contains-append_left, Contains-push, Contains-push_cases}
@@ -23,7 +23,7 @@ loop-first-init c =
 
 pub list-requires : goal.list-requires
 list-requires c =
-    let ends = rows_of c.args.ends.now in
+    let ends = row_lists c.args.ends.now in
     let leasts = c.args.leasts.now in
     let s = c.loop-first.listing in
     let t : Listing = record { checked = s.checked; waiting = s.waiting; listed = s.listed; ready = c.pop_first.new.self } in
@@ -46,7 +46,7 @@ list-requires c =
 
 pub loop-first-smaller : goal.loop-first-smaller
 loop-first-smaller c =
-    let ends = rows_of c.args.ends.now in
+    let ends = row_lists c.args.ends.now in
     let leasts = c.args.leasts.now in
     let s = c.loop-first.listing in
     let t : Listing = record { checked = s.checked; waiting = s.waiting; listed = s.listed; ready = c.pop_first.new.self } in
@@ -61,7 +61,7 @@ loop-first-smaller c =
 
 pub loop-first-preserved : goal.loop-first-preserved
 loop-first-preserved c =
-    let ends = rows_of c.args.ends.now in
+    let ends = row_lists c.args.ends.now in
     let leasts = c.args.leasts.now in
     let s = c.loop-first.listing in
     let t : Listing = record { checked = s.checked; waiting = s.waiting; listed = s.listed; ready = c.pop_first.new.self } in
@@ -72,7 +72,7 @@ loop-first-preserved c =
     let above = c.in-Some.ensures.all_above in
     let class_is = popped_class ends leasts s t inv.underway n class refl refl refl removed above in
     let inside : class < length s.listed.items = omega (arith, class_is.0, inv.underway.listed_long) in
-    let placed : (x : ℕ) → x < length ends → listed_at s.listed.items x ≡ false → IsPlaced leasts s x
+    let placed : (x : ℕ) → x < length ends → listed_at s.listed.items x ≡ false → IsReadyOrWaits leasts s x
     = λ x lt free. inv.placed x (omega (arith, lt, length-map c.args.ends.now (λ r. r.items))) free in
     let order = c.loop-first.order.items in
     let e = c.in_ok-list.ensures in
@@ -96,14 +96,14 @@ loop-first-preserved c =
 
 pub returns : goal.returns
 returns c =
-    let ends = rows_of c.args.ends.now in
+    let ends = row_lists c.args.ends.now in
     let s = c.loop-first.listing in
     let inv = c.loop-first.invariant in
     let empty : length s.ready.keys ≡ 0 = elim (cases_lt 0 (length s.ready.keys)) [
       | inl some ↦ let never : false ≡ true = c.in_default.ensures.variant.1 some in absurd (cc)
       | inr none ↦ omega (arith, none)
     ] in
-    let placed : (x : ℕ) → x < length ends → listed_at s.listed.items x ≡ false → IsPlaced c.args.leasts.now s x
+    let placed : (x : ℕ) → x < length ends → listed_at s.listed.items x ≡ false → IsReadyOrWaits c.args.leasts.now s x
     = λ x lt free. inv.placed x (omega (arith, lt, length-map c.args.ends.now (λ r. r.items))) free in
     record {
       each = inv.each;

@@ -1,12 +1,12 @@
 use Rattle.std.proofs.Common.{◌≡◌, ℕ, ◌+◌, ◌<◌, [], length, get_or, drop, replicate, ap, subst, ◌∙◌, arith}
 use Rattle.std.proofs.lemmas.List.{length-map, take_at}
-use Rattle.rpm_graph.proofs.Vocabulary.{IsSearch, rows_of}
+use Rattle.rpm_graph.proofs.Vocabulary.{IsSearch, row_lists}
 use Rattle.rpm_graph.proofs.Ends.{fresh, split_at_end}
 use Rattle.rpm_graph.proofs.search.find_classes.Goals as goal
 
 pub loop-place-init : goal.loop-place-init
 loop-place-init c =
-    let rows = rows_of c.args.rows.now in
+    let rows = row_lists c.args.rows.now in
     let e = c.in_ok-search.ensures in
     record {
       searched = rw (e.ranks, e.path, e.roots, e.pending, e.closed)
@@ -17,7 +17,7 @@ loop-place-init c =
 
 pub returns : goal.returns
 returns c =
-    let rows = rows_of c.args.rows.now in
+    let rows = row_lists c.args.rows.now in
     let s = c.loop-place.search in
     let kept = c.loop-place.invariant in
     let low = c.lower.ensures in

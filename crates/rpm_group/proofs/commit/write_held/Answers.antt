@@ -1,6 +1,6 @@
 use Rattle.std.proofs.Common.{◌≡◌, inl, inr, ℕ, ◌-◌, ◌<◌, [], refl, sym, ap, subst, ◌∙◌, arith}
 use Rattle.std.proofs.lemmas.Bool.{cases_lt}
-use Rattle.rpm_group.proofs.Vocabulary.{EndsAt, Files, held_at, KeepsBehind, laid, laid_file, log_units, needed, Pages, started, Units}
+use Rattle.rpm_group.proofs.Vocabulary.{IsHeldBelow, Files, held_at, KeepsBehind, laid_units, laid_file, log_units, needed_units, Pages, started, Units}
 use Rattle.rpm_group.proofs.Behinds.{keeps_none}
 use Rattle.rpm_group.proofs.Countings.{nothing_held}
 use Rattle.rpm_group.proofs.LoggedLaws.{unheld_is}
@@ -15,8 +15,8 @@ unheld_file pages file none = elim (cases_lt 0 pages.end) [
       absurd (pages.last some (unheld_is (held_at pages.table.items (pages.end - 1)) (nothing_held pages.table.items pages.end none (pages.end - 1) last)))
   | inr zero_end ↦
       let is : pages.end ≡ 0 = omega arith in
-      sym (laid_none pages.table.items file (subst (λ (e : ℕ). EndsAt pages.table.items e) is pages.past))
-      ∙ ap (λ (e : ℕ). laid pages.table.items e file) (sym is)
+      sym (laid_none pages.table.items file (subst (λ (e : ℕ). IsHeldBelow pages.table.items e) is pages.past))
+      ∙ ap (λ (e : ℕ). laid_units pages.table.items e file) (sym is)
 ]
 
 pub returns-then-units-eq0-clause-files : goal.returns-then-units-eq0-clause-files
@@ -55,14 +55,14 @@ pub returns-then-units-eq0-clause-behind : goal.returns-then-units-eq0-clause-be
 returns-then-units-eq0-clause-behind g c = λ told.
     let D = g.D.Disk in
     let old = c.args.disk.now in
-    started D old (λ image. KeepsBehind (needed c.args.held.now) (D.files old).log image.log)
-    (λ image left. subst (λ (f : Files). KeepsBehind (needed c.args.held.now) (D.files old).log f.log) (sym (c.requires.settled told image left))
-    (keeps_none (needed c.args.held.now) (D.files old).log))
+    started D old (λ image. KeepsBehind (needed_units c.args.held.now) (D.files old).log image.log)
+    (λ image left. subst (λ (f : Files). KeepsBehind (needed_units c.args.held.now) (D.files old).log f.log) (sym (c.requires.durable told image left))
+    (keeps_none (needed_units c.args.held.now) (D.files old).log))
 
 pub returns-then-units-ge-MOST-clause-behind : goal.returns-then-units-ge-MOST-clause-behind
 returns-then-units-ge-MOST-clause-behind g c = λ told.
     let D = g.D.Disk in
     let old = c.args.disk.now in
-    started D old (λ image. KeepsBehind (needed c.args.held.now) (D.files old).log image.log)
-    (λ image left. subst (λ (f : Files). KeepsBehind (needed c.args.held.now) (D.files old).log f.log) (sym (c.requires.settled told image left))
-    (keeps_none (needed c.args.held.now) (D.files old).log))
+    started D old (λ image. KeepsBehind (needed_units c.args.held.now) (D.files old).log image.log)
+    (λ image left. subst (λ (f : Files). KeepsBehind (needed_units c.args.held.now) (D.files old).log f.log) (sym (c.requires.durable told image left))
+    (keeps_none (needed_units c.args.held.now) (D.files old).log))

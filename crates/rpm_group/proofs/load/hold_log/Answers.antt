@@ -21,13 +21,13 @@ returns-in-Opened-clause-held g c = on_ok_map c.hold_entries.result c.hold_entri
     let D = g.D.Disk in
     let files : Files = D.files c.args.disk.now in
     let mid : Files = D.files c.read_log.new.disk in
-    let gate = c.in-Opened.gate in
+    let commit_record = c.in-Opened.commit_record in
     let same : mid ≡ files = (c.read_log.ensures.reads.looks.untouched told).same in
     let says = subst (λ (r : Reading). LogSays r files.log) c.in-Opened.is (c.in-Ok.ensures.says told) in
-    held_reopened files (laid_files c.hold_entries.new.held files) (heads_behind gate files.log) says.0 says.2
+    held_reopened files (laid_files c.hold_entries.new.held files) (heads_behind commit_record files.log) says.0 says.2
     (held told files
-    ∙ ap (λ (f : Files). with_entries (entries_of (heads_behind gate f.log)) (laid_files c.args.held.now files)) same
-    ∙ ap (λ (f : Files). with_entries (entries_of (heads_behind gate files.log)) f) (c.requires files)))
+    ∙ ap (λ (f : Files). with_entries (entries_of (heads_behind commit_record f.log)) (laid_files c.args.held.now files)) same
+    ∙ ap (λ (f : Files). with_entries (entries_of (heads_behind commit_record files.log)) f) (c.requires files)))
 
 pub returns-in-Shut-clause-entries : goal.returns-in-Shut-clause-entries
 returns-in-Shut-clause-entries g c = λ told files.
@@ -40,10 +40,10 @@ returns-in-Opened-clause-entries g c = on_ok_map c.hold_entries.result c.hold_en
     (λ held told files.
     let D = g.D.Disk in
     let first : Files = D.files c.args.disk.now in
-    let gate = c.in-Opened.gate in
+    let commit_record = c.in-Opened.commit_record in
     let same : D.files c.read_log.new.disk ≡ first = (c.read_log.ensures.reads.looks.untouched told).same in
     let says = subst (λ (r : Reading). LogSays r first.log) c.in-Opened.is (c.in-Ok.ensures.says told) in
     held told files
-    ∙ ap (λ (f : Files). with_entries (entries_of (heads_behind gate f.log)) (laid_files c.args.held.now files)) same
-    ∙ ap (λ (f : Files). with_entries (entries_of (heads_behind gate first.log)) f) (c.requires files)
+    ∙ ap (λ (f : Files). with_entries (entries_of (heads_behind commit_record f.log)) (laid_files c.args.held.now files)) same
+    ∙ ap (λ (f : Files). with_entries (entries_of (heads_behind commit_record first.log)) f) (c.requires files)
     ∙ ap (λ (s : LogState). with_entries (entries_of s) files) (sym says.0))

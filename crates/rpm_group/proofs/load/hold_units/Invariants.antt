@@ -1,5 +1,5 @@
 use Rattle.std.proofs.Common.{◌≡◌, ◌-◌, ◌≤◌, take, drop, IsTrue}
-use Rattle.rpm_group.proofs.Vocabulary.{file_of, Files, laid_files, Log, LooksAt, put_some, with_file}
+use Rattle.rpm_group.proofs.Vocabulary.{file_of, Files, laid_files, Log, OnlyReadsFile, put_some, with_file}
 use Rattle.rpm_group.proofs.load.hold_units.Given as goal
 
 abbrev pub invariant-loop-done : goal.invariant-loop-done
@@ -10,7 +10,7 @@ invariant-loop-done g l =
       held : IsTrue D.tells → (files : Files)
           → laid_files l.held files ≡ with_file l.file (put_some l.at (take l.done (drop l.from (D.files l.initial.disk).log))
           (file_of l.file (laid_files l.initial.held files))) (laid_files l.initial.held files);
-      looks : LooksAt D Log l.initial.disk l.disk;
+      looks : OnlyReadsFile D Log l.initial.disk l.disk;
       faults : D.faults l.initial.disk ≤ D.faults l.disk;
     }
 

@@ -1,6 +1,6 @@
 use Rattle.std.proofs.Common.{sym}
 use Rattle.rpm_group.proofs.Vocabulary.{head_past, unit_at}
-use Rattle.rpm_group.proofs.Gates.{head_read, head_says}
+use Rattle.rpm_group.proofs.CommitRecords.{head_read, head_says}
 use Rattle.rpm_group.proofs.log.read_head.Goals as goal
 
 pub returns-then-p-last-clause-says : goal.returns-then-p-last-clause-says

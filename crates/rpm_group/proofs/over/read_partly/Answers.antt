@@ -1,5 +1,5 @@
 use Rattle.std.proofs.Common.{◌≡◌, ℕ, ◌+◌, ◌/◌, ◌≤◌, max, length, take, drop, refl, sym, ap, ◌∙◌, subst, arith}
-use Rattle.rpm_group.proofs.Vocabulary.{EndsAt, File, file_of, file_of-laid, Files, laid, laid_file, laid_files, Layers, Pages, pages_of, unit_at, Units}
+use Rattle.rpm_group.proofs.Vocabulary.{IsHeldBelow, File, file_of, file_of-laid, Files, laid_units, laid_file, laid_files, Layers, Pages, pages_of, unit_at, Units}
 use Rattle.rpm_group.proofs.Laids.{length-laid, laid_none}
 use Rattle.rpm_group.proofs.Spares.{counts_below, counts_spared, counts_after}
 use Rattle.rpm_group.proofs.Readouts.{on_ok_map, read_laid}
@@ -18,8 +18,8 @@ alone : (file : File) (layers : Layers) (files : Files) (pages : Pages) → page
 alone file layers files pages is none =
     file_of-laid file layers files
     ∙ ap (λ (p : Pages). laid_file p (file_of file files)) (sym is)
-    ∙ ap (λ (e : ℕ). laid pages.table.items e (file_of file files)) none
-    ∙ laid_none pages.table.items (file_of file files) (subst (EndsAt pages.table.items) none pages.past)
+    ∙ ap (λ (e : ℕ). laid_units pages.table.items e (file_of file files)) none
+    ∙ laid_none pages.table.items (file_of file files) (subst (IsHeldBelow pages.table.items) none pages.past)
 
 never : (unit n below whole : ℕ) (file : File) (layers : Layers) (files : Files) (pages : Pages) → below ≡ length (file_of file files)
     → pages ≡ pages_of file layers → whole ≡ max below pages.end → unit + n ≤ length (file_of file (laid_files layers files)) → unit + n ≤ whole

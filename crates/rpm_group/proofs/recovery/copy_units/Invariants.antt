@@ -1,5 +1,5 @@
 use Rattle.std.proofs.Common.{◌≡◌, ◌+◌, ◌-◌, ◌≤◌, take, drop, IsTrue}
-use Rattle.rpm_group.proofs.Vocabulary.{file_of, LeavesChanged, put_some, ReadsLog, with_file}
+use Rattle.rpm_group.proofs.Vocabulary.{file_of, CrashChanges, put_some, ReadsLog, with_file}
 use Rattle.rpm_group.proofs.recovery.copy_units.Given as goal
 
 abbrev pub invariant-loop-done : goal.invariant-loop-done
@@ -10,7 +10,7 @@ invariant-loop-done g l =
       place : l.done ≤ l.count;
       files : IsTrue D.tells → D.files l.disk ≡ with_file l.file (put_some l.at (take l.done (drop l.from first.log)) (file_of l.file first)) first;
       log : IsTrue D.tells → (D.files l.disk).log ≡ first.log;
-      images : IsTrue D.tells → LeavesChanged D l.file l.at (l.at + l.count) l.initial.disk l.disk;
+      images : IsTrue D.tells → CrashChanges D l.file l.at (l.at + l.count) l.initial.disk l.disk;
       reads : ReadsLog D l.initial.disk l.disk;
       faults : D.faults l.initial.disk ≤ D.faults l.disk;
     }

@@ -1,5 +1,5 @@
 use Rattle.std.proofs.Common.{◌≡◌, ℕ, ◌+◌, ◌-◌, ◌<◌, List, ◌∷◌, length, ap, ◌∙◌, arith}
-use Rattle.rpm_group.proofs.Vocabulary.{changed_leaves_more, changed_leaves_then, cut_up_one, Files, length-unit, Log, put, put_split, Units, units_held}
+use Rattle.rpm_group.proofs.Vocabulary.{changed_leaves_more, changed_leaves_then, cut_up_one, Files, length-unit, Log, with_units, put_split, Units, units_held}
 use Rattle.rpm_group.proofs.Vocabulary.{units_of, with_file, write_leaves}
 use Rattle.rpm_group.proofs.Readouts.{on_ok_map}
 use Rattle.rpm_group.proofs.Runs.{length-units_held}
@@ -10,11 +10,12 @@ one_unit head long = ap length (cut_up_one head long)
 
 -- a head and then the units are an entry
 entry_written : (at : ℕ) (head : List ℕ) (units : Units) (old mid new : Files) → length head ≡ 16 → 0 < length units
-    → mid ≡ with_file Log (put at (units_of head) old.log) old → new ≡ with_file Log (put (at + 1) units mid.log) mid
-    → new ≡ with_file Log (put at (head ∷ units) old.log) old
+    → mid ≡ with_file Log (with_units at (units_of head) old.log) old → new ≡ with_file Log (with_units (at + 1) units mid.log) mid
+    → new ≡ with_file Log (with_units at (head ∷ units) old.log) old
 entry_written at head units old mid new long some first second =
     second
-    ∙ ap (λ (f : Files). with_file Log (put (at + 1) units f.log) f) (first ∙ ap (λ (us : Units). with_file Log (put at us old.log) old) (cut_up_one head long))
+    ∙ ap (λ (f : Files). with_file Log (with_units (at + 1) units f.log) f)
+    (first ∙ ap (λ (us : Units). with_file Log (with_units at us old.log) old) (cut_up_one head long))
     ∙ ap (λ (us : Units). with_file Log us old) (put_split at head units old.log some)
 
 pub returns-in_err-write_at-clause-images : goal.returns-in_err-write_at-clause-images
@@ -53,4 +54,4 @@ returns-clause-written g c = on_ok_map c.write_run.result c.write_run.ensures.wr
     entry_written c.args.at head units old (D.files c.write_at.new.self) (D.files c.write_run.new.disk)
     (ap length c.head_of-head.ensures ∙ length-unit _ _ _ _) (omega (arith, length-units_held c.args.table.now.items c.args.from n, c.requires.some))
     (c.in_ok-write_at.ensures.written told) (written told)
-    ∙ ap (λ (u : List ℕ). with_file Log (put c.args.at (u ∷ units) old.log) old) c.head_of-head.ensures)
+    ∙ ap (λ (u : List ℕ). with_file Log (with_units c.args.at (u ∷ units) old.log) old) c.head_of-head.ensures)

@@ -1,5 +1,5 @@
 use Rattle.std.proofs.Common.{◌≡◌, ℕ, ◌+◌, ◌/◌, List, length, ap, ◌∙◌, arith}
-use Rattle.rpm_group.proofs.Vocabulary.{file_of, Files, length-cut_up, put, Units, units_of, with_file, write_leaves}
+use Rattle.rpm_group.proofs.Vocabulary.{file_of, Files, length-cut_up, with_units, Units, units_of, with_file, write_leaves}
 use Rattle.rpm_group.proofs.Gathered.{gathered_units}
 use Rattle.rpm_group.proofs.writes.write_piece.Goals as goal
 
@@ -26,6 +26,6 @@ returns-clause-written g c = λ told.
     let n = length c.args.bytes.now / 16 in
     let bytes = c.lay.new.into in
     c.in_ok-write_at.ensures.written told
-    ∙ ap (λ (us : Units). with_file c.args.file (put c.args.at us (file_of c.args.file old)) old)
+    ∙ ap (λ (us : Units). with_file c.args.file (with_units c.args.at us (file_of c.args.file old)) old)
     (gathered_units c.args.table.now.items c.args.from n c.args.bytes.now bytes (omega (arith, ap (λ (k : ℕ). k / 16) c.lay.auto.into)) c.lay.auto.into
     c.requires.held c.lay.ensures)

@@ -1,6 +1,6 @@
 use Rattle.std.proofs.Common.{◌≡◌, ℕ, ◌+◌, ◌-◌, ◌*◌, ◌/◌, ◌≤◌, List, length, take, refl, ap, ◌∙◌, arith}
 use Rattle.std.proofs.lemmas.List.{length-take}
-use Rattle.rpm_group.proofs.Vocabulary.{changed_leaves_more, changed_leaves_then, file_of, Files, leaves_none, nothing_none, nothing_then, put, put_some}
+use Rattle.rpm_group.proofs.Vocabulary.{changed_leaves_more, changed_leaves_then, file_of, Files, leaves_none, nothing_none, nothing_then, with_units, put_some}
 use Rattle.rpm_group.proofs.Vocabulary.{units_held, with_file, with_itself}
 use Rattle.rpm_group.proofs.ByteLaws.{length-put_mid}
 use Rattle.rpm_group.proofs.Runs.{run_more, run_none, run_all}
@@ -57,7 +57,7 @@ loop-done-preserved g c =
           run_more table c.args.file c.args.at c.args.from done (done + n) n place (D.files c.args.disk.now) mid (D.files c.write_piece.new.disk) inv.from
           (omega (arith, c.min-n.ensures)) (omega arith) refl (inv.files told)
           (c.in_ok-write_piece.ensures.written told
-          ∙ ap (λ (j : ℕ). with_file c.args.file (put place (units_held table done j) (file_of c.args.file mid)) mid) k);
+          ∙ ap (λ (j : ℕ). with_file c.args.file (with_units place (units_held table done j) (file_of c.args.file mid)) mid) k);
       images = λ told.
           changed_leaves_then D c.args.file c.args.at (c.args.at + (c.args.end - c.args.from)) c.args.disk.now c.loop-done.disk
           c.write_piece.new.disk

@@ -1,5 +1,5 @@
 use Rattle.std.proofs.Common.{◌≡◌, ◌+◌, ◌-◌, ◌≤◌, length, IsTrue}
-use Rattle.rpm_group.proofs.Vocabulary.{file_of, LeavesChanged, put_some, ReadsNothing, units_held, with_file}
+use Rattle.rpm_group.proofs.Vocabulary.{file_of, CrashChanges, put_some, ReadsNothing, units_held, with_file}
 use Rattle.rpm_group.proofs.writes.write_run.Given as goal
 
 abbrev pub invariant-loop-done : goal.invariant-loop-done
@@ -12,7 +12,7 @@ invariant-loop-done g l =
       end : l.done ≤ l.end;
       files : IsTrue D.tells → D.files l.disk
           ≡ with_file l.file (put_some l.at (units_held l.table.items l.from (l.done - l.from)) (file_of l.file first)) first;
-      images : IsTrue D.tells → LeavesChanged D l.file l.at (l.at + (l.end - l.from)) l.initial.disk l.disk;
+      images : IsTrue D.tells → CrashChanges D l.file l.at (l.at + (l.end - l.from)) l.initial.disk l.disk;
       reads : ReadsNothing D l.initial.disk l.disk;
       faults : D.faults l.initial.disk ≤ D.faults l.disk;
     }

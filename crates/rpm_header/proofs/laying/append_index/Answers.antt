@@ -1,5 +1,5 @@
 use Rattle.std.proofs.Common.{◌≡◌, ◌+◌, ◌++◌, ◌∙◌, sym, ap, arith, length, refl}
-use Rattle.rpm_header.proofs.Vocabulary.{end_of, index_bytes, IndexEntry}
+use Rattle.rpm_header.proofs.Vocabulary.{end_of_data, index_bytes, IndexEntry}
 use Rattle.rpm_header.proofs.LaidOut.{offset_is, indexed_is, end_more, index_more, index_all}
 use Rattle.rpm_header.proofs.laying.append_index.Goals as goal
 
@@ -7,7 +7,7 @@ pub overflow_cast-count : goal.overflow_cast-count
 overflow_cast-count c =
     let e = c.entry-item.result in
     let same =
-    end_more c.args.entries.now c.loop-entry.entry-index c.loop-entry.end e c.loop-entry-test.true c.entry-item.is (end_of c.loop-entry.end e) refl in
+    end_more c.args.entries.now c.loop-entry.entry-index c.loop-entry.end e c.loop-entry-test.true c.entry-item.is (end_of_data c.loop-entry.end e) refl in
     omega (arith, c.count.ensures.few, same)
 
 pub loop-entry-preserved : goal.loop-entry-preserved
@@ -15,7 +15,7 @@ loop-entry-preserved c =
     let e = c.entry-item.result in
     let next = c.offset_from-offset.result + length c.bytes.result.now in
     let offset = offset_is c.loop-entry.end c.offset_from-offset.result c.form-form.result e c.offset_from-offset.ensures.value c.form-form.ensures in
-    let ends : next ≡ end_of c.loop-entry.end e = omega (arith, offset, ap length c.bytes.ensures) in
+    let ends : next ≡ end_of_data c.loop-entry.end e = omega (arith, offset, ap length c.bytes.ensures) in
     let same = end_more c.args.entries.now c.loop-entry.entry-index c.loop-entry.end e c.loop-entry-test.true c.entry-item.is next ends in
     let entry =
     indexed_is c.loop-entry.end e c.tag.result c.kind_of.result c.offset_from-offset.result c.count.result c.form-form.result c.tag.ensures

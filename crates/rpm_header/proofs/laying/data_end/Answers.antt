@@ -1,5 +1,5 @@
 use Rattle.std.proofs.Common.{◌≡◌, ◌+◌, ◌<◌, ◌≤◌, ◌∙◌, sym, ap, arith, length, lt-ltb, le-ltb, refl}
-use Rattle.rpm_header.proofs.Vocabulary.{data_from, end_of}
+use Rattle.rpm_header.proofs.Vocabulary.{data_from, end_of_data}
 use Rattle.rpm_header.proofs.LaidOut.{offset_is, end_more, end_all}
 use Rattle.rpm_header.proofs.laying.data_end.Goals as goal
 
@@ -7,7 +7,7 @@ pub returns-then-end : goal.returns-then-end
 returns-then-end c =
     let e = c.entry-item.result in
     let next = c.offset_from-offset.result + length c.bytes.result.now in
-    let ends : next ≡ end_of c.loop-entry.end e =
+    let ends : next ≡ end_of_data c.loop-entry.end e =
     omega (
       arith,
       offset_is c.loop-entry.end c.offset_from-offset.result c.form.result e c.offset_from-offset.ensures.value c.form.ensures,
@@ -21,7 +21,7 @@ pub loop-entry-preserved : goal.loop-entry-preserved
 loop-entry-preserved c =
     let e = c.entry-item.result in
     let next = c.offset_from-offset.result + length c.bytes.result.now in
-    let ends : next ≡ end_of c.loop-entry.end e =
+    let ends : next ≡ end_of_data c.loop-entry.end e =
     omega (
       arith,
       offset_is c.loop-entry.end c.offset_from-offset.result c.form.result e c.offset_from-offset.ensures.value c.form.ensures,

@@ -1,6 +1,6 @@
 use Rattle.std.proofs.Common.{◌≡◌, ◌-◌, ◌*◌, ℕ, List, length, take, drop, get_or, arith, ap, sym, ◌∙◌, length-drop}
 use Rattle.std.proofs.lemmas.List.{take_all}
-use Rattle.rpm_header.proofs.Vocabulary.{skipped, zeros}
+use Rattle.rpm_header.proofs.Vocabulary.{after_texts, zeros}
 use Rattle.rpm_header.proofs.Counted.{zeros-parts, zeros-take-le, ended_enough}
 use Rattle.rpm_header.proofs.Skipped.{skip_drop, skip_none}
 use Rattle.rpm_header.proofs.places.behind.Goals as goal
@@ -32,6 +32,6 @@ returns c =
     c.skip_texts.ensures
     ∙ c.pass_parts-left.ensures.same
     ∙ c.pass_blocks-in_block.ensures.same
-    ∙ ap (λ (s : List ℕ). skipped (c.args.count - get_or c.args.sums.now k 0) s) rest
-    ∙ ap (λ (n : ℕ). skipped (c.args.count - n) (drop from bytes)) sum
+    ∙ ap (λ (s : List ℕ). after_texts (c.args.count - get_or c.args.sums.now k 0) s) rest
+    ∙ ap (λ (n : ℕ). after_texts (c.args.count - n) (drop from bytes)) sum
     ∙ skip_drop from c.args.count bytes (omega (arith, c.stride_before-k.ensures.fewer))

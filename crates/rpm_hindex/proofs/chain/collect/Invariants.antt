@@ -1,13 +1,13 @@
 use Rattle.std.proofs.Common.{◌≡◌, ℕ, ◌+◌, ◌*◌, ◌%◌, ◌<◌, ◌≤◌, List, map}
 use Rattle.std.specs.Prelude.{IsTrue}
-use Rattle.rpm_hindex.proofs.Vocabulary.{AsOften, follow, hash_of, Idx, index_in, LooksAt, row_at, sum_by, unit_at, units_at}
+use Rattle.rpm_hindex.proofs.Vocabulary.{AsOften, follow, hash_of, Idx, index_in, OnlyReadsFile, row_at, sum_by, unit_at, units_at}
 use Rattle.rpm_hindex.proofs.Chains.{behind_all}
 use Rattle.rpm_hindex.proofs.chain.collect.Given as goal
 
 abbrev pub invariant-loop-at : goal.invariant-loop-at
 invariant-loop-at g l = record {
   within : 0 < l.at → l.at < l.extent.used;
-  looks : LooksAt g.D.Disk Idx l.initial.disk l.disk;
+  looks : OnlyReadsFile g.D.Disk Idx l.initial.disk l.disk;
   faults : g.D.Disk.faults l.initial.disk ≤ g.D.Disk.faults l.disk;
   so_far : IsTrue g.D.Disk.tells → (done : List ℕ)
       × AsOften l.kind l.key (map (row_at (unit_at (g.D.Disk.files l.initial.disk).idx)) done) l.hits.items

@@ -1,8 +1,8 @@
 use Rattle.std.proofs.Common.{◌≡◌, ℕ, Bool, ◌-◌, ◌+◌, ◌%◌, ◌<◌, ◌∷◌, [], List, Vec, Global, length, drop, refl, sym, ap, ◌∙◌, arith, rules, subst}
 use Rattle.rpm_hindex.proofs.Vocabulary.{AreStarts, chain, ChainCosts, Change, contains, Extent, Files, get, HasGone, hash_of, HasLess, HasNoFault, Idx}
-use Rattle.rpm_hindex.proofs.Vocabulary.{Index, index_in, is_at, is_kept, IsBadSoFar, IsCut, IsHonest, IsShort, IsWellFormed, kept_in, kept_of, looks_at_none}
+use Rattle.rpm_hindex.proofs.Vocabulary.{Index, index_in, is_at, is_kept, IsBadSoFar, IsWithoutDropped, IsHonest, IsShort, IsWellFormed, kept_in, kept_of, looks_at_none}
 use Rattle.rpm_hindex.proofs.Vocabulary.{looks_at_then, lookup, nat_cmp, Row, row_nth, StandWithin, Start, times, unit_at, units_at}
-use Rattle.rpm_hindex.proofs.Vocabulary.{IsOpen}
+use Rattle.rpm_hindex.proofs.Vocabulary.{HasBuckets}
 use Rattle.rpm_hindex.proofs.Takes.{rows_from}
 use Rattle.rpm_hindex.proofs.Costing.{chain_more, chains_drop}
 use Rattle.rpm_hindex.proofs.Keeping.{less_start, less_before}
@@ -118,8 +118,8 @@ loop-left-preserved g c =
           (gone_before (row_nth rows i) (drop l.left rows) first l.change last x (l.invariant.gone told none) (here none));
       cuts = λ told whole none cut.
           let same = (l.invariant.looks.untouched told).same in
-          let here = subst (λ (f : Files). IsWellFormed l.change.extent.buckets f.idx → length l.change.tail.items ≡ 0 → IsCut l.change f.idx
-          → IsCut c.drop_row.new.self f.idx) same (c.in_ok-drop_row.ensures.dropped told).cuts in
+          let here = subst (λ (f : Files). IsWellFormed l.change.extent.buckets f.idx → length l.change.tail.items ≡ 0 → IsWithoutDropped l.change f.idx
+          → IsWithoutDropped c.drop_row.new.self f.idx) same (c.in_ok-drop_row.ensures.dropped told).cuts in
           let wells = subst (λ (e : Extent). IsWellFormed e.buckets (g.D.Disk.files c.args.disk.now).idx) (sym l.invariant.extent) whole in
           here wells (ap (λ (t : Vec ℕ Global). length t.items) l.invariant.tail ∙ none) (l.invariant.cuts told whole none cut);
       honest = λ told is. subst (λ (f : Files). IsHonest l.change f.idx → IsHonest c.drop_row.new.self f.idx)
@@ -197,8 +197,8 @@ returns-clause-dropped g c = λ told.
 pub drop_row-requires-clause-open : goal.drop_row-requires-clause-open
 drop_row-requires-clause-open g c = λ told.
     let l = c.loop-left in
-    subst (λ (e : Extent). IsOpen e (g.D.Disk.files l.disk).idx) (sym l.invariant.extent)
-    (subst (λ (f : Files). IsOpen c.args.change.now.extent f.idx) (sym ((l.invariant.looks.untouched told).same)) (c.requires.open told))
+    subst (λ (e : Extent). HasBuckets e (g.D.Disk.files l.disk).idx) (sym l.invariant.extent)
+    (subst (λ (f : Files). HasBuckets c.args.change.now.extent f.idx) (sym ((l.invariant.looks.untouched told).same)) (c.requires.open told))
 
 pub returns-in_err-drop_row-clause-reads : goal.returns-in_err-drop_row-clause-reads
 returns-in_err-drop_row-clause-reads g c = record {

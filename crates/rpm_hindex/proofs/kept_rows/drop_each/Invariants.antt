@@ -1,7 +1,7 @@
 use Rattle.std.proofs.Common.{◌≡◌, ◌+◌, ◌≤◌, length, drop}
 use Rattle.std.specs.Prelude.{IsTrue}
-use Rattle.rpm_hindex.proofs.Vocabulary.{AreStarts, CanGo, chains_bytes, contains, get, HasGone, HasLess, HasNoFault, Idx, index_in, is_kept, IsCut, IsHonest}
-use Rattle.rpm_hindex.proofs.Vocabulary.{IsWellFormed, kept_of, LooksAt, nat_cmp, StandWithin}
+use Rattle.rpm_hindex.proofs.Vocabulary.{AreStarts, CanGo, chains_bytes, contains, get, HasGone, HasLess, HasNoFault, Idx, index_in, is_kept, IsWithoutDropped, IsHonest}
+use Rattle.rpm_hindex.proofs.Vocabulary.{IsWellFormed, kept_of, OnlyReadsFile, nat_cmp, StandWithin}
 use Rattle.rpm_hindex.proofs.kept_rows.drop_each.Given as goal
 
 abbrev pub invariant-loop-left : goal.invariant-loop-left
@@ -20,12 +20,12 @@ invariant-loop-left g l = record {
   gone : IsTrue g.D.Disk.tells → HasNoFault (index_in l.initial.change.extent.buckets (g.D.Disk.files l.initial.disk).idx)
       → HasGone (drop l.left l.rows) l.initial.change l.change (index_in l.initial.change.extent.buckets (g.D.Disk.files l.initial.disk).idx);
   cuts : IsTrue g.D.Disk.tells → IsWellFormed l.initial.change.extent.buckets (g.D.Disk.files l.initial.disk).idx → length l.initial.change.tail.items
-      ≡ 0 → IsCut l.initial.change (g.D.Disk.files l.initial.disk).idx → IsCut l.change (g.D.Disk.files l.initial.disk).idx;
+      ≡ 0 → IsWithoutDropped l.initial.change (g.D.Disk.files l.initial.disk).idx → IsWithoutDropped l.change (g.D.Disk.files l.initial.disk).idx;
   honest : IsTrue g.D.Disk.tells → IsHonest l.initial.change (g.D.Disk.files l.initial.disk).idx → IsHonest l.change (g.D.Disk.files l.initial.disk).idx;
   cost : IsTrue g.D.Disk.tells → IsWellFormed l.initial.change.extent.buckets (g.D.Disk.files l.initial.disk).idx
       → g.D.Disk.bytes_read l.disk Idx ≤ g.D.Disk.bytes_read l.initial.disk Idx + chains_bytes (index_in l.initial.change.extent.buckets
       (g.D.Disk.files l.initial.disk).idx) (drop l.left l.rows);
-  looks : LooksAt g.D.Disk Idx l.initial.disk l.disk;
+  looks : OnlyReadsFile g.D.Disk Idx l.initial.disk l.disk;
   faults : g.D.Disk.faults l.initial.disk ≤ g.D.Disk.faults l.disk;
 }
 

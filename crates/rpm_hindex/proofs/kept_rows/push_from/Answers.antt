@@ -1,6 +1,6 @@
 use Rattle.std.proofs.Common.{◌≡◌, ◌+◌, ◌*◌, ◌/◌, ◌%◌, ◌^◌, ℕ, List, [], ◌∷◌, ◌++◌, map, cond, not, Bool, true, ap, ◌∙◌, sym, arith, subst, rules}
 use Rattle.std.proofs.lemmas.Result.{err_from_is_err_and}
-use Rattle.rpm_hindex.proofs.Vocabulary.{contains, Files, filter, follow, Idx, Index, index_in, is_kept, is_placed, is_sound, IsAhead, IsFaultOf, IsHead}
+use Rattle.rpm_hindex.proofs.Vocabulary.{contains, Files, filter, follow, Idx, Index, index_in, is_kept, is_placed, is_sound, IsRecordAhead, IsFaultOf, IsRecordHead}
 use Rattle.rpm_hindex.proofs.Vocabulary.{looks_at_from, looks_at_then, nat_cmp, row_at, unit_at}
 use Rattle.rpm_hindex.proofs.Collects.{one_more, at_fault, at_end}
 use Rattle.rpm_hindex.proofs.Gathers.{kept_more}
@@ -73,7 +73,7 @@ loop-at-preserved g c =
       faults = omega (arith, l.invariant.faults, c.read_head.ensures.reads.cause.later, c.push_row.ensures.reads.cause.later);
       so_far = λ told.
           let s = l.invariant.so_far told in
-          let ahead = subst (λ (f : Files). IsAhead (index_in B f.idx) l.at c.in_ok-next.field-0) ((l.invariant.looks.untouched told).same)
+          let ahead = subst (λ (f : Files). IsRecordAhead (index_in B f.idx) l.at c.in_ok-next.field-0) ((l.invariant.looks.untouched told).same)
           (c.in_ok-next.ensures.ahead told) in
           let sound = subst (λ (f : Files). is_sound (index_in B f.idx) b c.in_ok-next.field-0.head.at ≡ true) ((looks.untouched told).same)
           (c.in_ok-push_row.ensures.sound told) in
@@ -99,5 +99,5 @@ push_row-requires-clause-placed g c = λ told.
 
 pub push_row-requires-clause-head : goal.push_row-requires-clause-head
 push_row-requires-clause-head g c = λ told.
-    subst (λ (f : Files). IsHead (unit_at f.idx) c.in_ok-next.field-0.head) (sym ((c.in_ok-next.ensures.reads.looks.untouched told).same))
+    subst (λ (f : Files). IsRecordHead (unit_at f.idx) c.in_ok-next.field-0.head) (sym ((c.in_ok-next.ensures.reads.looks.untouched told).same))
     (c.in_ok-next.ensures.ahead told).head

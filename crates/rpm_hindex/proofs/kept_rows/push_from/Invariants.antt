@@ -1,13 +1,13 @@
 use Rattle.std.proofs.Common.{◌≡◌, ◌≤◌, ◌++◌, ℕ, List, map}
 use Rattle.std.specs.Prelude.{IsTrue}
-use Rattle.rpm_hindex.proofs.Vocabulary.{contains, filter, follow, Idx, index_in, is_kept, IsNext, LooksAt, nat_cmp, row_at, unit_at}
+use Rattle.rpm_hindex.proofs.Vocabulary.{contains, filter, follow, Idx, index_in, is_kept, IsNextUnit, OnlyReadsFile, nat_cmp, row_at, unit_at}
 use Rattle.rpm_hindex.proofs.Chains.{behind_all}
 use Rattle.rpm_hindex.proofs.kept_rows.push_from.Given as goal
 
 abbrev pub invariant-loop-at : goal.invariant-loop-at
 invariant-loop-at g l = record {
-  linked : IsNext l.extent.buckets l.extent.used l.at;
-  looks : LooksAt g.D.Disk Idx l.initial.disk l.disk;
+  linked : IsNextUnit l.extent.buckets l.extent.used l.at;
+  looks : OnlyReadsFile g.D.Disk Idx l.initial.disk l.disk;
   faults : g.D.Disk.faults l.initial.disk ≤ g.D.Disk.faults l.disk;
   so_far : IsTrue g.D.Disk.tells → (done : List ℕ)
       × (l.rows ≡ l.initial.rows ++ map (row_at (unit_at (g.D.Disk.files l.initial.disk).idx)) (filter (is_kept (λ p. contains nat_cmp l.dropped p)) done))

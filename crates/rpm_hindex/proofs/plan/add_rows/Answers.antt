@@ -1,6 +1,6 @@
 use Rattle.std.proofs.Common.{◌≡◌, ◌+◌, ◌*◌, ◌<◌, List, length, take, ap, ◌∙◌, arith, refl, sym, subst, ◌∷◌, [], rules}
 use Rattle.std.proofs.lemmas.List.{take_all}
-use Rattle.rpm_hindex.proofs.Vocabulary.{AddsRows, changing, Extent, Files, Idx, IsFaulty, IsHonest, IsWhole, live_of, looks_more, looks_none, looks_then}
+use Rattle.rpm_hindex.proofs.Vocabulary.{AddsRows, index_after, Extent, Files, Idx, IsFaulty, IsHonest, IsWhole, live_of, looks_more, looks_none, looks_then}
 use Rattle.rpm_hindex.proofs.Vocabulary.{record_units, Row, row_nth}
 use Rattle.rpm_hindex.proofs.Takes.{live_take, live_none, live_next, next_rows}
 use Rattle.rpm_hindex.proofs.Adding.{rows_none, rows_then}
@@ -50,9 +50,9 @@ loop-i-preserved g c =
       live = omega (arith, c.in_ok-add_row.ensures.grows.live, c.loop-i.invariant.live, live_next rows i lt, size);
       adds = λ told whole.
           let file : Files = g.D.Disk.files c.args.disk.now in
-          let more = subst (λ (f : Files). IsWhole c.loop-i.change.records c.loop-i.change.live (changing c.loop-i.change f.idx)
+          let more = subst (λ (f : Files). IsWhole c.loop-i.change.records c.loop-i.change.live (index_after c.loop-i.change f.idx)
           → AddsRows c.loop-i.change c.add_row.new.self f.idx (row_nth rows i ∷ [])) ((c.loop-i.invariant.looks.untouched told).same)
-          (subst (λ (r : Row). IsWhole c.loop-i.change.records c.loop-i.change.live (changing c.loop-i.change (g.D.Disk.files c.loop-i.disk).idx)
+          (subst (λ (r : Row). IsWhole c.loop-i.change.records c.loop-i.change.live (index_after c.loop-i.change (g.D.Disk.files c.loop-i.disk).idx)
           → AddsRows c.loop-i.change c.add_row.new.self (g.D.Disk.files c.loop-i.disk).idx (r ∷ [])) c.row_ref.ensures.row
           (c.in_ok-add_row.ensures.added told).rows) in
           subst (AddsRows c.args.change.now c.add_row.new.self file.idx) (sym (next_rows rows i lt)) (rows_then c.args.change.now c.loop-i.change

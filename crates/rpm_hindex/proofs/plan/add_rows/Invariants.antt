@@ -1,5 +1,5 @@
 use Rattle.std.proofs.Common.{◌≡◌, ◌+◌, ◌*◌, ◌/◌, ◌≤◌, length, take}
-use Rattle.rpm_hindex.proofs.Vocabulary.{AddsRows, CanGo, changing, Idx, IsHonest, IsWhole, live_of, Looks}
+use Rattle.rpm_hindex.proofs.Vocabulary.{AddsRows, CanGo, index_after, Idx, IsHonest, IsWhole, live_of, OnlyReads}
 use Rattle.std.specs.Prelude.{IsTrue}
 use Rattle.rpm_hindex.proofs.plan.add_rows.Given as goal
 
@@ -11,9 +11,9 @@ invariant-loop-i g l = record {
   records : l.change.records ≡ l.initial.change.records + l.i;
   live : l.change.live ≡ l.initial.change.live + live_of (take l.i l.rows);
   adds : IsTrue g.D.Disk.tells → IsWhole l.initial.change.records l.initial.change.live
-      (changing l.initial.change (g.D.Disk.files l.initial.disk).idx) → AddsRows l.initial.change l.change (g.D.Disk.files l.initial.disk).idx
+      (index_after l.initial.change (g.D.Disk.files l.initial.disk).idx) → AddsRows l.initial.change l.change (g.D.Disk.files l.initial.disk).idx
       (take l.i l.rows);
   honest : IsTrue g.D.Disk.tells → IsHonest l.initial.change (g.D.Disk.files l.initial.disk).idx → IsHonest l.change (g.D.Disk.files l.initial.disk).idx;
-  looks : Looks g.D.Disk Idx (16 * l.i) l.initial.disk l.disk;
+  looks : OnlyReads g.D.Disk Idx (16 * l.i) l.initial.disk l.disk;
   faults : g.D.Disk.faults l.initial.disk ≤ g.D.Disk.faults l.disk;
 }

@@ -1,9 +1,9 @@
 use Rattle.std.proofs.Common.{◌≡◌, ℕ, ◌-◌, ◌%◌, ◌<◌, ◌++◌, List, length, take, drop, replicate, ap, ◌∙◌, arith}
 use Rattle.std.proofs.lemmas.List.{take-replicate, drop-replicate}
-use Rattle.rpm_hindex.proofs.Vocabulary.{padding}
+use Rattle.rpm_hindex.proofs.Vocabulary.{key_padding}
 use Rattle.rpm_hindex.proofs.records.push_key.Goals as goal
 
-zeros : (n past : ℕ) → past ≡ n % 16 → 0 < past → take (16 - past) (drop past (replicate 16 0)) ≡ padding n
+zeros : (n past : ℕ) → past ≡ n % 16 → 0 < past → take (16 - past) (drop past (replicate 16 0)) ≡ key_padding n
 zeros n past is some =
     ap (take (16 - past)) (drop-replicate past 16 0)
     ∙ take-replicate (16 - past) (16 - past) 0 (omega arith)

@@ -1,6 +1,6 @@
 use Rattle.std.proofs.Common.{ℕ, List, [], Bool, refl, sym, ap, arith, subst, rules}
 use Rattle.std.specs.Prelude.{Option}
-use Rattle.rpm_hindex.proofs.Vocabulary.{contains, Files, Head, Idx, Index, index_in, is_kept, IsFoundFrom, IsOutside, IsPath, IsSoundSpot, IsSpot, nat_cmp}
+use Rattle.rpm_hindex.proofs.Vocabulary.{contains, Files, Head, Idx, Index, index_in, is_kept, IsFoundFrom, IsOutsideIndex, IsPath, IsSoundSpot, IsSpot, nat_cmp}
 use Rattle.rpm_hindex.proofs.Vocabulary.{OnWay, PathCosts, Row, Spot, sum_by, units_at}
 use Rattle.std.proofs.lemmas.Grind.{common_steps}
 use Rattle.std.proofs.lemmas.List.Sums.{sum_by-append}
@@ -87,7 +87,7 @@ returns-in-None-clause-fault g c = if_err c.find_spot-in-None.result _ _ (λ e s
     let row : Row = record { kind = c.args.row.kind; key = c.args.row.key.now; number = c.args.row.number; place = c.args.row.place } in
     let st = c.requires.start told places path in
     let way = way_behind x c.args.bucket c.args.first kept row c.args.start st places path in
-    subst (λ (f : Files). OnWay (index_in c.args.extent.buckets f.idx) c.args.bucket c.args.first c.args.start.at (IsOutside e))
+    subst (λ (f : Files). OnWay (index_in c.args.extent.buckets f.idx) c.args.bucket c.args.first c.args.start.at (IsOutsideIndex e))
     ((c.in_ok-found.ensures.reads.looks.untouched told).same) (said told) st.front way.0 st.path way.1) c.find_spot-in-None.ensures.fault
 
 pub returns-in-None-clause-cost : goal.returns-in-None-clause-cost

@@ -1,6 +1,6 @@
 use Rattle.std.proofs.Common.{◌≡◌, ℕ, List, Bool, true, Ok, refl, sym, ap, ◌∙◌, subst, rules}
 use Rattle.std.specs.Prelude.{Some}
-use Rattle.rpm_hindex.proofs.Vocabulary.{chain, contains, Files, FindFault, get, Idx, Index, index_in, is_kept, is_link, IsFoundFrom, IsOutside, IsPath}
+use Rattle.rpm_hindex.proofs.Vocabulary.{chain, contains, Files, FindFault, get, Idx, Index, index_in, is_kept, is_link, IsFoundFrom, IsOutsideIndex, IsPath}
 use Rattle.rpm_hindex.proofs.Vocabulary.{IsSoundSpot, IsStart, looks_at_from, looks_at_then, nat_cmp, Row, Start}
 use Rattle.rpm_hindex.specs.declared.faults.FindFault.TheVariants.{BadIndex}
 use Rattle.rpm_hindex.proofs.Paths.{follow_path, path_follow, chain_cost}
@@ -62,11 +62,11 @@ returns-in-Err-clause-cost g c = λ told.
 bad_chain : (B b at : ℕ) (file mid later : Files) (fault : FindFault) (unit : ℕ) → fault ≡ BadIndex unit → mid ≡ file → later ≡ mid
     → at ≡ (index_in B file.idx).head b
     → is_link (index_in B file.idx) at ≡ true
-    → ((places : List ℕ) → IsPath (index_in B mid.idx) b at places 0 → IsOutside fault)
+    → ((places : List ℕ) → IsPath (index_in B mid.idx) b at places 0 → IsOutsideIndex fault)
     → (places : List ℕ) → chain (index_in B later.idx) b ≡ Ok places → ⊥
 bad_chain B b at file mid later fault unit is same after word link said places e =
     let first = subst (λ (f : Files). chain (index_in B f.idx) b ≡ Ok places) (after ∙ same) e in
-    of_chain B b at file mid (λ (y : Index) (ps : List ℕ). ⊥) same word link (λ ps ok. subst IsOutside is (said ps ok)) places first
+    of_chain B b at file mid (λ (y : Index) (ps : List ℕ). ⊥) same word link (λ ps ok. subst IsOutsideIndex is (said ps ok)) places first
 
 pub first_fault-requires-clause-bad : goal.first_fault-requires-clause-bad
 first_fault-requires-clause-bad g c = λ told.

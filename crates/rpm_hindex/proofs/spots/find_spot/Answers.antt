@@ -1,5 +1,5 @@
 use Rattle.std.proofs.Common.{ℕ, ◌<◌, ◌≡◌, ◌∷◌, [], ◌++◌, List, Bool, true, refl, sym, ap, ◌∙◌, arith, subst, inr, rules}
-use Rattle.rpm_hindex.proofs.Vocabulary.{contains, Files, Idx, Index, index_in, is_kept, is_sound, IsOutside, IsPath, looks_at_none, looks_at_then, nat_cmp}
+use Rattle.rpm_hindex.proofs.Vocabulary.{contains, Files, Idx, Index, index_in, is_kept, is_sound, IsOutsideIndex, IsPath, looks_at_none, looks_at_then, nat_cmp}
 use Rattle.rpm_hindex.proofs.Vocabulary.{Row, sum_by, unit_at, units_at}
 use Rattle.std.proofs.lemmas.Bool.{and_parts}
 use Rattle.std.proofs.lemmas.List.Sums.{sum_by-append}
@@ -57,7 +57,7 @@ returns-in_err-behind-clause-fault g c =
     let looks = looks_at_then _ Idx g.met.D.Disk.follows_trans c.args.disk.now l.disk c.meet.new.disk l.invariant.looks c.meet.ensures.reads.looks in
     behind c.args.extent.buckets c.args.bucket c.args.from l.at c.args.end file (g.D.Disk.files l.disk) s.0 s.1
     ((l.invariant.looks.untouched told).same) s.3 s.4 (omega (arith, c.loop-at-test.true)) row c.in_ok-met.met (c.in_ok-met.ensures.met told)
-    (λ (x : Index) (qs : List ℕ). IsPath x c.args.bucket c.args.end rest 0 → IsOutside c.in_err-behind.field-0.0) (g.D.Disk.files c.meet.new.disk)
+    (λ (x : Index) (qs : List ℕ). IsPath x c.args.bucket c.args.end rest 0 → IsOutsideIndex c.in_err-behind.field-0.0) (g.D.Disk.files c.meet.new.disk)
     ((looks.untouched told).same) (λ qs way. λ later. c.in_err-behind.ensures.fault told c.args.bucket qs rest way later) more)
 
 pub returns-in_err-behind-clause-cost : goal.returns-in_err-behind-clause-cost

@@ -1,5 +1,5 @@
 use Rattle.std.proofs.Common.{ℕ, ◌∷◌, [], ◌++◌, not, refl, sym, ap, ◌∙◌, arith, subst, inl, inr}
-use Rattle.rpm_hindex.proofs.Vocabulary.{contains, Files, Idx, Index, index_in, is_kept, IsAhead, IsPath, looks_at_from, looks_at_none, looks_at_then}
+use Rattle.rpm_hindex.proofs.Vocabulary.{contains, Files, Idx, Index, index_in, is_kept, IsRecordAhead, IsPath, looks_at_from, looks_at_none, looks_at_then}
 use Rattle.rpm_hindex.proofs.Vocabulary.{nat_cmp, sum_by, unit_at, units_at}
 use Rattle.std.proofs.lemmas.List.Sums.{sum_by_push, sum_by-append}
 use Rattle.rpm_hindex.proofs.Passing.{fault_outside, cost_within, next_left, left_more}
@@ -78,7 +78,7 @@ loop-at-preserved g c =
           let s = l.invariant.so_far told b front path in
           let x : Index = index_in B file.idx in
           let next = next_left B b c.args.from l.at c.args.end file file s.0 s.1 refl s.3 s.4 (omega (arith, c.loop-at-test.true)) in
-          let a = subst (λ (f : Files). IsAhead (index_in B f.idx) l.at c.in_ok-ahead.ahead) ((l.invariant.looks.untouched told).same)
+          let a = subst (λ (f : Files). IsRecordAhead (index_in B f.idx) l.at c.in_ok-ahead.ahead) ((l.invariant.looks.untouched told).same)
           (c.in_ok-ahead.ensures.ahead told) in
           let gone = ap not (sym c.contains.ensures ∙ c.if-contains.true) in (
             s.0 ++ l.at ∷ [],

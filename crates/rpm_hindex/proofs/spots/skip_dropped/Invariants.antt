@@ -1,12 +1,12 @@
 use Rattle.std.proofs.Common.{◌≡◌, ℕ, ◌+◌, ◌*◌, ◌≤◌, List, [], ◌++◌}
 use Rattle.std.specs.Prelude.{IsTrue}
-use Rattle.rpm_hindex.proofs.Vocabulary.{contains, filter, Idx, index_in, is_kept, IsNext, IsPath, LooksAt, nat_cmp, sum_by, unit_at, units_at}
+use Rattle.rpm_hindex.proofs.Vocabulary.{contains, filter, Idx, index_in, is_kept, IsNextUnit, IsPath, OnlyReadsFile, nat_cmp, sum_by, unit_at, units_at}
 use Rattle.rpm_hindex.proofs.spots.skip_dropped.Given as goal
 
 abbrev pub invariant-loop-at : goal.invariant-loop-at
 invariant-loop-at g l = record {
-  linked : IsNext l.extent.buckets l.extent.used l.at;
-  looks : LooksAt g.D.Disk Idx l.initial.disk l.disk;
+  linked : IsNextUnit l.extent.buckets l.extent.used l.at;
+  looks : OnlyReadsFile g.D.Disk Idx l.initial.disk l.disk;
   faults : g.D.Disk.faults l.initial.disk ≤ g.D.Disk.faults l.disk;
   so_far : IsTrue g.D.Disk.tells → (b : ℕ) (front : List ℕ)
       → IsPath (index_in l.extent.buckets (g.D.Disk.files l.initial.disk).idx) b l.from front l.end → (done : List ℕ) × (left : List ℕ)

@@ -1,12 +1,12 @@
 use Rattle.std.proofs.Common.{length, ◌-◌, ◌≤◌, take}
-use Rattle.rpm_outside.proofs.Vocabulary.{Gained}
+use Rattle.rpm_outside.proofs.Vocabulary.{GainIs}
 use Rattle.rpm_outside.proofs.puts.put_all.Given as goal
 
 abbrev pub invariant-loop-done : goal.invariant-loop-done
 invariant-loop-done g l = record {
   within : l.done ≤ length l.bytes;
   faults : g.O.Sink.faults l.initial.sink ≤ g.O.Sink.faults l.sink;
-  taken : Gained g.O.Sink.tells (g.O.Sink.taken l.initial.sink) (g.O.Sink.taken l.sink) (take l.done l.bytes);
+  taken : GainIs g.O.Sink.tells (g.O.Sink.taken l.initial.sink) (g.O.Sink.taken l.sink) (take l.done l.bytes);
   goes_on : g.O.Sink.follows l.initial.sink l.sink;
 }
 

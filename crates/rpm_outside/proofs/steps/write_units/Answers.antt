@@ -1,7 +1,7 @@
 use Rattle.std.proofs.Common.{◌≡◌, ◌<◌, ◌==◌, ℕ, true, false, List, [], ◌∷◌, ◌++◌, length, refl, sym, ◌∙◌, ap, subst, arith}
 use Rattle.std.proofs.lemmas.List.{nil_from_length}
 use Rattle.std.proofs.lemmas.Bool.Decides.{nat_tests}
-use Rattle.rpm_outside.proofs.Vocabulary.{file_of, held_files, part_of, put, Step, Units, units_of, with_file, Wrote, WroteAny}
+use Rattle.rpm_outside.proofs.Vocabulary.{file_of, held_files, part_of, with_units, Step, Units, units_of, with_file, Wrote, WroteAny}
 use Rattle.rpm_outside.proofs.Replays.{once_any}
 use Rattle.rpm_outside.proofs.steps.write_units.Goals as goal
 
@@ -32,5 +32,5 @@ returns-clause-ok c =
       kept = c.in_ok-units.units;
       is = is;
       step = c.in_ok-push.ensures.items ∙ ap (λ (s : List Step). s ++ Wrote file c.args.unit units ∷ []) c.reserve.ensures.items;
-      files = c.in_ok-write.ensures.ok ∙ ap (λ (us : Units). with_file file (put c.args.unit us (file_of file old)) old) (c.deref.ensures.value ∙ is);
+      files = c.in_ok-write.ensures.ok ∙ ap (λ (us : Units). with_file file (with_units c.args.unit us (file_of file old)) old) (c.deref.ensures.value ∙ is);
     })

@@ -65,15 +65,15 @@ loop-done-preserved g c =
     }
 
 pub returns-clause-copied : goal.returns-clause-copied
-returns-clause-copied g c = on_ok c.settle.result (λ told i below.
-    ap (λ (us : Units). unit_at us (c.args.to + i)) (c.settle.ensures.writes.changes.pkg told)
+returns-clause-copied g c = on_ok c.sync_pkg.result (λ told i below.
+    ap (λ (us : Units). unit_at us (c.args.to + i)) (c.sync_pkg.ensures.writes.changes.pkg told)
     ∙ c.loop-done.invariant.copied told i (omega (arith, below, c.loop-done-test.false)))
 
 pub returns-clause-long : goal.returns-clause-long
-returns-clause-long g c = on_ok c.settle.result (λ told some.
+returns-clause-long g c = on_ok c.sync_pkg.result (λ told some.
     omega (
       arith,
-      ap length (c.settle.ensures.writes.changes.pkg told),
+      ap length (c.sync_pkg.ensures.writes.changes.pkg told),
       c.loop-done.invariant.long told (omega (arith, some, c.loop-done-test.false)),
       c.loop-done-test.false,
     ))
@@ -81,7 +81,7 @@ returns-clause-long g c = on_ok c.settle.result (λ told some.
 pub returns-clause-writes : goal.returns-clause-writes
 returns-clause-writes g c =
     let S = SameOutside c.args.to c.args.count in
-    writes_then g.D.Disk g.met.D.Disk.follows_trans c.loop-done.invariant.writes c.settle.ensures.writes (omega (arith, c.loop-done.invariant.to_end))
+    writes_then g.D.Disk g.met.D.Disk.follows_trans c.loop-done.invariant.writes c.sync_pkg.ensures.writes (omega (arith, c.loop-done.invariant.to_end))
     (λ x y r. r) (λ x y z r same. subst (S x) (sym same) r)
 
 pub returns-in_err-read_units-clause-writes : goal.returns-in_err-read_units-clause-writes

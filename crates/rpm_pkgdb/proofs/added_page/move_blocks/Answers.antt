@@ -1,6 +1,6 @@
 use Rattle.std.proofs.Common.{◌≡◌, ℕ, IsTrue, inr, ◌+◌, ◌*◌, ◌-◌, ◌<◌, ◌≤◌, [], ◌∷◌, refl, arith}
-use Rattle.rpm_pkgdb.proofs.Vocabulary.{Anything, blank, blocks_of, CanMove, end_of, Holds, Keeps, NoShorter, Store, Torn, unit_at, WhileMoved}
-use Rattle.rpm_pkgdb.proofs.Changing.{map_ok, writes_then, writes_weaker, writes_failed, stops_while, stops_next}
+use Rattle.rpm_pkgdb.proofs.Vocabulary.{Anything, blank, blocks_of, CanMove, end_of, HasUnits, KeepsStore, NoShorter, Store, Torn, unit_at, WhileMoved}
+use Rattle.rpm_pkgdb.proofs.Changing.{map_ok, writes_then, writes_weaker, writes_failed, crashes_while, crashes_next}
 use Rattle.rpm_pkgdb.proofs.FreedLaws.{moved_blank}
 use Rattle.rpm_pkgdb.proofs.Reaching.{unit_ends, outside_ends}
 use Rattle.rpm_pkgdb.proofs.Moves.{move_set, held_after, while_copied, while_slot_moved, while_old_zeroed, moved_alike}
@@ -11,8 +11,8 @@ returns-in_err-copy_blocks-clause-images g c = λ told value can quiet.
     let D = g.D.Disk in
     let old = c.args.old in
     let F0 = (D.files c.args.disk.now).pkg in
-    let keeps : Keeps F0 value = (quiet (D.files c.args.disk.now) (g.met.D.Disk.as_read c.args.disk.now told)).keeps in
-    stops_while g.D.Disk told (WhileMoved value c.args.place old c.args.to F0) c.copy_blocks.ensures.writes
+    let keeps : KeepsStore F0 value = (quiet (D.files c.args.disk.now) (g.met.D.Disk.as_read c.args.disk.now told)).keeps in
+    crashes_while g.D.Disk told (WhileMoved value c.args.place old c.args.to F0) c.copy_blocks.ensures.writes
     (λ from image was same. while_copied value c.args.place old c.args.to can F0 keeps from.pkg image.pkg (quiet from was) same)
 
 pub returns-in_err-write_one-clause-images : goal.returns-in_err-write_one-clause-images
@@ -22,16 +22,16 @@ returns-in_err-write_one-clause-images g c = λ told value can quiet.
     let F0 = (D.files c.args.disk.now).pkg in
     let F1 = (D.files c.copy_blocks.new.disk).pkg in
     let P = WhileMoved value c.args.place old c.args.to F0 in
-    let keeps : Keeps F0 value = (quiet (D.files c.args.disk.now) (g.met.D.Disk.as_read c.args.disk.now told)).keeps in
+    let keeps : KeepsStore F0 value = (quiet (D.files c.args.disk.now) (g.met.D.Disk.as_read c.args.disk.now told)).keeps in
     let some : 0 < old.count = (move_set value c.args.place old c.args.to can F0 keeps).some in
-    let holds : Holds F1 c.args.to (blocks_of old F0) =
+    let holds : HasUnits F1 c.args.to (blocks_of old F0) =
     held_after value c.args.place old c.args.to can F0 keeps F1 (c.in_ok-copy_blocks.ensures.long told some) (c.in_ok-copy_blocks.ensures.copied told) in
-    stops_next g.D.Disk told P c.copy_blocks.ensures.writes
-    (stops_while g.D.Disk told P c.copy_blocks.ensures.writes (λ from image was same. while_copied value c.args.place old c.args.to can F0 keeps from.pkg
+    crashes_next g.D.Disk told P c.copy_blocks.ensures.writes
+    (crashes_while g.D.Disk told P c.copy_blocks.ensures.writes (λ from image was same. while_copied value c.args.place old c.args.to can F0 keeps from.pkg
     image.pkg (quiet from was) same))
-    (stops_while g.D.Disk told P c.write_one.ensures.writes
+    (crashes_while g.D.Disk told P c.write_one.ensures.writes
     (λ from image was torn. while_slot_moved value c.args.place old c.args.to can F0 keeps c.slot_unit.result c.slot_unit.ensures F1 F1
-    (c.copy_blocks.ensures.writes.changes.pkg told) holds from.pkg image.pkg (c.in_ok-copy_blocks.ensures.settled told from was) torn))
+    (c.copy_blocks.ensures.writes.changes.pkg told) holds from.pkg image.pkg (c.in_ok-copy_blocks.ensures.durable told from was) torn))
 
 pub returns-clause-images : goal.returns-clause-images
 returns-clause-images g c = λ told value can quiet.
@@ -46,24 +46,24 @@ returns-clause-images g c = λ told value can quiet.
     let F2 = (D.files c.write_one.new.disk).pkg in
     let P = WhileMoved value place old to F0 in
     let T = Torn (2 + place) (c.slot_unit.result ∷ []) in
-    let keeps : Keeps F0 value = (quiet (D.files c.args.disk.now) (g.met.D.Disk.as_read c.args.disk.now told)).keeps in
+    let keeps : KeepsStore F0 value = (quiet (D.files c.args.disk.now) (g.met.D.Disk.as_read c.args.disk.now told)).keeps in
     let some : 0 < old.count = (move_set value place old to can F0 keeps).some in
-    let holds : Holds F1 to (blocks_of old F0) =
+    let holds : HasUnits F1 to (blocks_of old F0) =
     held_after value place old to can F0 keeps F1 (c.in_ok-copy_blocks.ensures.long told some) (c.in_ok-copy_blocks.ensures.copied told) in
     let both =
     writes_then g.D.Disk g.met.D.Disk.follows_trans {T = Anything} {most = 16 * old.count} c.copy_blocks.ensures.writes c.write_one.ensures.writes
     (omega arith) (λ x y r. tt) (λ x y z r s. tt) in
-    stops_next g.D.Disk told P both
-    (stops_next g.D.Disk told P c.copy_blocks.ensures.writes
-    (stops_while g.D.Disk told P c.copy_blocks.ensures.writes
+    crashes_next g.D.Disk told P both
+    (crashes_next g.D.Disk told P c.copy_blocks.ensures.writes
+    (crashes_while g.D.Disk told P c.copy_blocks.ensures.writes
     (λ from image was same. while_copied value place old to can F0 keeps from.pkg image.pkg (quiet from was) same))
-    (stops_while g.D.Disk told P c.write_one.ensures.writes
+    (crashes_while g.D.Disk told P c.write_one.ensures.writes
     (λ from image was torn. while_slot_moved value place old to can F0 keeps c.slot_unit.result c.slot_unit.ensures F1 F1
-    (c.copy_blocks.ensures.writes.changes.pkg told) holds from.pkg image.pkg (c.in_ok-copy_blocks.ensures.settled told from was) torn)))
-    (stops_while g.D.Disk told P c.write_zeros.ensures.writes
+    (c.copy_blocks.ensures.writes.changes.pkg told) holds from.pkg image.pkg (c.in_ok-copy_blocks.ensures.durable told from was) torn)))
+    (crashes_while g.D.Disk told P c.write_zeros.ensures.writes
     (λ from image was same. inr (while_old_zeroed value place old to can F0 keeps c.slot_unit.result c.slot_unit.ensures F1 F2
     (c.copy_blocks.ensures.writes.changes.pkg told) holds (c.in_ok-write_one.ensures.written told) at n (omega (arith, c.min-at.ensures, c.max.ensures))
-    (omega (arith, c.min-at.ensures, c.max.ensures)) from.pkg image.pkg (c.in_ok-write_one.ensures.settled told from was) same)))
+    (omega (arith, c.min-at.ensures, c.max.ensures)) from.pkg image.pkg (c.in_ok-write_one.ensures.durable told from was) same)))
 
 pub returns-in_err-copy_blocks-clause-writes : goal.returns-in_err-copy_blocks-clause-writes
 returns-in_err-copy_blocks-clause-writes g c =
@@ -100,7 +100,7 @@ returns-clause-moved g c =
     let first = c.copy_blocks.ensures.writes.changes.pkg told in
     let second = c.in_ok-write_one.ensures.written told in
     let same = c.write_zeros.ensures.writes.changes.pkg told in
-    let holds : (value : Store) → CanMove value place old to → Keeps F0 value → Holds F1 to (blocks_of old F0) =
+    let holds : (value : Store) → CanMove value place old to → KeepsStore F0 value → HasUnits F1 to (blocks_of old F0) =
     λ value can keeps. held_after value place old to can F0 keeps F1
     (c.in_ok-copy_blocks.ensures.long told (move_set value place old to can F0 keeps).some) (c.in_ok-copy_blocks.ensures.copied told) in
     record {
@@ -110,7 +110,7 @@ returns-clause-moved g c =
           let past = c.write_zeros.ensures.writes.changes.now told image here in
           let third = while_old_zeroed value place old to can F0 keeps unit c.slot_unit.ensures F1 F2 first (holds value can keeps) second at n low high in
           moved_alike value place old to can F0 keeps F3 image.pkg (third F2 F3 refl same)
-          (third past.from.pkg image.pkg (c.in_ok-write_one.ensures.settled told past.from past.was) past.pkg);
+          (third past.from.pkg image.pkg (c.in_ok-write_one.ensures.durable told past.from past.was) past.pkg);
       zeros = λ i from zeros_from below. zeros told i (omega (arith, c.min-at.ensures, c.max.ensures)) (omega (arith, c.min-at.ensures, c.max.ensures));
       blanks = moved_blank place to old.count at n unit F0 F1 F2 F3 first second same (zeros told);
       reach = λ limit place_ends old_ends new_ends short.

@@ -1,8 +1,8 @@
 use Rattle.std.proofs.Common.{◌≡◌, ℕ, ◌+◌, ◌<◌, ◌≤◌, IsTrue, refl, inr, ap, ◌∙◌, arith}
-use Rattle.rpm_pkgdb.proofs.Vocabulary.{BeforeOrAfter, blank, end_of, Keeps, unit_at, Units, with_free}
+use Rattle.rpm_pkgdb.proofs.Vocabulary.{StoreBeforeOrAfter, blank, end_of, KeepsStore, unit_at, Units, with_free}
 use Rattle.rpm_pkgdb.proofs.ClearLaws.{put_elsewhere}
 use Rattle.rpm_pkgdb.proofs.FreedLaws.{blank_then, put_blank, zeros_blank}
-use Rattle.rpm_pkgdb.proofs.Changing.{map_ok, writes_then, stops_while, stops_next}
+use Rattle.rpm_pkgdb.proofs.Changing.{map_ok, writes_then, crashes_while, crashes_next}
 use Rattle.rpm_pkgdb.proofs.Reaching.{unit_ends, outside_ends}
 use Rattle.rpm_pkgdb.proofs.Erases.{while_freed, freed, zeroed, stands_by}
 use Rattle.rpm_pkgdb.proofs.free_slots.free_slot.Goals as goal
@@ -12,7 +12,7 @@ returns-in_err-write_one-clause-images g c = λ told value has quiet.
     let D = g.D.Disk in
     let k = c.args.place in
     let F0 = (D.files c.args.disk.now).pkg in
-    stops_while g.D.Disk told (BeforeOrAfter value (with_free k value) F0) c.write_one.ensures.writes
+    crashes_while g.D.Disk told (StoreBeforeOrAfter value (with_free k value) F0) c.write_one.ensures.writes
     (λ from image was torn. while_freed value k c.args.slot has c.slot_unit.result c.slot_unit.ensures F0 from.pkg image.pkg (quiet from was) torn)
 
 pub returns-clause-images : goal.returns-clause-images
@@ -21,14 +21,14 @@ returns-clause-images g c = λ told value has quiet.
     let k = c.args.place in
     let F0 = (D.files c.args.disk.now).pkg in
     let mid = (D.files c.write_one.new.disk).pkg in
-    let P = BeforeOrAfter value (with_free k value) F0 in
-    let keeps : Keeps F0 value = (quiet (D.files c.args.disk.now) (g.met.D.Disk.as_read c.args.disk.now told)).keeps in
+    let P = StoreBeforeOrAfter value (with_free k value) F0 in
+    let keeps : KeepsStore F0 value = (quiet (D.files c.args.disk.now) (g.met.D.Disk.as_read c.args.disk.now told)).keeps in
     let was = freed value k c.args.slot has c.slot_unit.result c.slot_unit.ensures F0 mid keeps (c.in_ok-write_one.ensures.written told) in
-    stops_next g.D.Disk told P c.write_one.ensures.writes
-    (stops_while g.D.Disk told P c.write_one.ensures.writes
+    crashes_next g.D.Disk told P c.write_one.ensures.writes
+    (crashes_while g.D.Disk told P c.write_one.ensures.writes
     (λ from image here torn. while_freed value k c.args.slot has c.slot_unit.result c.slot_unit.ensures F0 from.pkg image.pkg (quiet from here) torn))
-    (stops_while g.D.Disk told P c.write_zeros.ensures.writes
-    (λ from image here same. inr (zeroed value k c.args.slot has F0 mid from.pkg image.pkg was (c.in_ok-write_one.ensures.settled told from here) same)))
+    (crashes_while g.D.Disk told P c.write_zeros.ensures.writes
+    (λ from image here same. inr (zeroed value k c.args.slot has F0 mid from.pkg image.pkg was (c.in_ok-write_one.ensures.durable told from here) same)))
 
 pub returns-clause-writes : goal.returns-clause-writes
 returns-clause-writes g c =
@@ -53,7 +53,7 @@ returns-clause-freed g c =
           let was = freed value k s has unit c.slot_unit.ensures F0 F1 keeps first in
           let r = c.write_zeros.ensures.writes.changes.now told image here in
           stands_by (with_free k value) F0 F2 image.pkg (zeroed value k s has F0 F1 F1 F2 was refl same)
-          (zeroed value k s has F0 F1 r.from.pkg image.pkg was (c.in_ok-write_one.ensures.settled told r.from r.was) r.pkg);
+          (zeroed value k s has F0 F1 r.from.pkg image.pkg was (c.in_ok-write_one.ensures.durable told r.from r.was) r.pkg);
       zeros = zeros told;
       blanks =
           blank_then (k + 3) 0 0 F0 F1 F2 (put_blank (2 + k) unit (k + 3) 0 0 F0 F1 (omega arith) first)

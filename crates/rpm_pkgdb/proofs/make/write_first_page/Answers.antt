@@ -1,5 +1,5 @@
 use Rattle.std.proofs.Common.{◌≡◌, ℕ, ◌+◌, ◌<◌, ◌≤◌, IsTrue, length, ap, ◌∙◌, arith}
-use Rattle.rpm_pkgdb.proofs.Vocabulary.{cut_up_one, free, IsSlotUnit, put, SameOutside, Torn, unit_at, Units, units_of, word}
+use Rattle.rpm_pkgdb.proofs.Vocabulary.{cut_up_one, free, IsSlotUnit, with_units, SameOutside, Torn, unit_at, Units, units_of, word}
 use Rattle.rpm_pkgdb.proofs.Changing.{both_ok, writes_weaker, writes_then, writes_failed}
 use Rattle.rpm_pkgdb.proofs.ClearLaws.{torn_outside, outside_then, outside_wider, put_here}
 use Rattle.rpm_pkgdb.proofs.make.write_first_page.Goals as goal
@@ -35,7 +35,7 @@ returns-clause-page g c =
     let unit = c.next_unit.result in
     let here : unit_at d 1 ≡ unit =
     (c.write_free_slots.ensures.writes.changes.pkg told).below 1 (omega arith) ∙ ap (λ (u : Units). unit_at u 1) (c.in_ok-write_units.ensures.written told)
-    ∙ ap (λ (us : Units). unit_at (put 1 us a) 1) (cut_up_one unit (omega arith)) ∙ put_here 1 unit a in
+    ∙ ap (λ (us : Units). unit_at (with_units 1 us a) 1) (cut_up_one unit (omega arith)) ∙ put_here 1 unit a in
     record {
       long = omega (arith, long told);
       next = here ∙ c.next_unit.ensures.bytes;

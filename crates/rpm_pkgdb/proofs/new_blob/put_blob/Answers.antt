@@ -1,10 +1,10 @@
 use Rattle.std.proofs.Common.{◌≡◌, ℕ, Bool, if◌then◌else◌, None, Some, IsTrue, IfSome, ◌<◌, ◌≤◌, ◌+◌, [], ◌∷◌, List, length, refl, sym, ap, ◌∙◌, subst, arith}
-use Rattle.rpm_pkgdb.proofs.Vocabulary.{After, Anything, blank, blocks_for, end_of, framed, IsSlotUnit, Keeps, next_field, next_unit, Slot, slot_for, Target}
+use Rattle.rpm_pkgdb.proofs.Vocabulary.{After, Anything, blank, blocks_for, end_of, framed, IsSlotUnit, KeepsStore, next_field, next_unit, Slot, slot_for, Target}
 use Rattle.rpm_pkgdb.proofs.Vocabulary.{Torn, unit_at, Units, units_of, WhilePut}
 use Rattle.rpm_pkgdb.proofs.ClearLaws.{put_elsewhere}
 use Rattle.rpm_pkgdb.proofs.FramingLaws.{count-framed}
 use Rattle.rpm_pkgdb.proofs.FreedLaws.{blob_aside, put_blank_all}
-use Rattle.rpm_pkgdb.proofs.Changing.{map_ok, writes_then, writes_failed, stops_while, stops_next}
+use Rattle.rpm_pkgdb.proofs.Changing.{map_ok, writes_then, writes_failed, crashes_while, crashes_next}
 use Rattle.rpm_pkgdb.proofs.Reaching.{unit_ends, outside_ends, blob_ends}
 use Rattle.rpm_pkgdb.proofs.PutsLaws.{while_blob, second_phase, third_phase, stand_alike}
 use Rattle.rpm_pkgdb.proofs.new_blob.put_blob.Goals as goal
@@ -18,7 +18,7 @@ returns-in_err-write_first-clause-images g c = λ told value can quiet.
     let target = c.args.target.now in
     let blob = c.args.blob.now in
     let F0 = (D.files c.args.disk.now).pkg in
-    stops_while g.D.Disk told (WhilePut value target c.args.generation blob F0) c.write_first.ensures.writes
+    crashes_while g.D.Disk told (WhilePut value target c.args.generation blob F0) c.write_first.ensures.writes
     (λ from image was torn. while_blob value target c.args.generation c.args.old blob can F0 from.pkg image.pkg (quiet from was) torn)
 
 pub returns-in_err-write_one-clause-images : goal.returns-in_err-write_one-clause-images
@@ -29,14 +29,14 @@ returns-in_err-write_one-clause-images g c = λ told value can quiet.
     let F0 = (D.files c.args.disk.now).pkg in
     let F1 = (D.files c.write_first.new.disk).pkg in
     let P = WhilePut value target c.args.generation blob F0 in
-    let keeps : Keeps F0 value = (quiet (D.files c.args.disk.now) (g.met.D.Disk.as_read c.args.disk.now told)).keeps in
+    let keeps : KeepsStore F0 value = (quiet (D.files c.args.disk.now) (g.met.D.Disk.as_read c.args.disk.now told)).keeps in
     let is = slot_is c.slot_unit.result target c.slot.result c.slot.ensures c.slot_unit.ensures in
-    stops_next g.D.Disk told P c.write_first.ensures.writes
-    (stops_while g.D.Disk told P c.write_first.ensures.writes
+    crashes_next g.D.Disk told P c.write_first.ensures.writes
+    (crashes_while g.D.Disk told P c.write_first.ensures.writes
     (λ from image was torn. while_blob value target c.args.generation c.args.old blob can F0 from.pkg image.pkg (quiet from was) torn))
-    (stops_while g.D.Disk told P c.write_one.ensures.writes
+    (crashes_while g.D.Disk told P c.write_one.ensures.writes
     (λ from image was torn. second_phase value target c.args.generation c.args.old blob can c.slot_unit.result is F0 F1 F1 keeps
-    (c.in_ok-write_first.ensures.written told) from.pkg image.pkg (c.in_ok-write_first.ensures.settled told from was) torn))
+    (c.in_ok-write_first.ensures.written told) from.pkg image.pkg (c.in_ok-write_first.ensures.durable told from was) torn))
 
 pub returns-clause-images : goal.returns-clause-images
 returns-clause-images g c = λ told value can quiet.
@@ -48,22 +48,22 @@ returns-clause-images g c = λ told value can quiet.
     let F2 = (D.files c.write_one.new.disk).pkg in
     let T = Torn (2 + target.place) (c.slot_unit.result ∷ []) in
     let P = WhilePut value target c.args.generation blob F0 in
-    let keeps : Keeps F0 value = (quiet (D.files c.args.disk.now) (g.met.D.Disk.as_read c.args.disk.now told)).keeps in
+    let keeps : KeepsStore F0 value = (quiet (D.files c.args.disk.now) (g.met.D.Disk.as_read c.args.disk.now told)).keeps in
     let is = slot_is c.slot_unit.result target c.slot.result c.slot.ensures c.slot_unit.ensures in
     let both =
     writes_then g.D.Disk g.met.D.Disk.follows_trans {T = Anything} {most = 0} c.write_first.ensures.writes c.write_one.ensures.writes (omega arith)
     (λ x y r. tt) (λ x y z r s. tt) in
-    stops_next g.D.Disk told P both
-    (stops_next g.D.Disk told P c.write_first.ensures.writes
-    (stops_while g.D.Disk told P c.write_first.ensures.writes
+    crashes_next g.D.Disk told P both
+    (crashes_next g.D.Disk told P c.write_first.ensures.writes
+    (crashes_while g.D.Disk told P c.write_first.ensures.writes
     (λ from image was torn. while_blob value target c.args.generation c.args.old blob can F0 from.pkg image.pkg (quiet from was) torn))
-    (stops_while g.D.Disk told P c.write_one.ensures.writes
+    (crashes_while g.D.Disk told P c.write_one.ensures.writes
     (λ from image was torn. second_phase value target c.args.generation c.args.old blob can c.slot_unit.result is F0 F1 F1 keeps
-    (c.in_ok-write_first.ensures.written told) from.pkg image.pkg (c.in_ok-write_first.ensures.settled told from was) torn)))
-    (stops_while g.D.Disk told P c.write_zeros.ensures.writes
+    (c.in_ok-write_first.ensures.written told) from.pkg image.pkg (c.in_ok-write_first.ensures.durable told from was) torn)))
+    (crashes_while g.D.Disk told P c.write_zeros.ensures.writes
     (λ from image was same. After (third_phase value target c.args.generation c.args.old blob can c.slot_unit.result is F0 F1 F2 keeps
     (c.in_ok-write_first.ensures.written told) (c.in_ok-write_one.ensures.written told) from.pkg image.pkg
-    (c.in_ok-write_one.ensures.settled told from was) same)))
+    (c.in_ok-write_one.ensures.durable told from was) same)))
 
 pub returns-clause-writes : goal.returns-clause-writes
 returns-clause-writes g c =
@@ -103,7 +103,7 @@ returns-clause-put g c =
           stand_alike value target gen old blob can F0 F3 image.pkg keeps
           (third_phase value target gen old blob can unit is F0 F1 F2 keeps first second F2 F3 refl same)
           (third_phase value target gen old blob can unit is F0 F1 F2 keeps first second past.from.pkg image.pkg
-          (c.in_ok-write_one.ensures.settled told past.from past.was) past.pkg);
+          (c.in_ok-write_one.ensures.durable told past.from past.was) past.pkg);
       next = λ none.
           let stays : unit_at F3 1 ≡ unit_at F1 1 =
           same.above 1 (omega (arith, ap (λ (s : Slot). s.offset) none, ap (λ (s : Slot). s.count) none))

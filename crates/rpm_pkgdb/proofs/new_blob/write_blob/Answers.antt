@@ -1,6 +1,6 @@
 use Rattle.std.proofs.Common.{◌≡◌, ◌+◌, ◌-◌, ◌*◌, ◌/◌, length, take, refl, ap, arith, IsTrue}
 use Rattle.std.proofs.lemmas.List.{length-take}
-use Rattle.rpm_pkgdb.proofs.Vocabulary.{blocks_for, length-put, put, SameOutside, units_of}
+use Rattle.rpm_pkgdb.proofs.Vocabulary.{blocks_for, length-put, with_units, SameOutside, units_of}
 use Rattle.rpm_pkgdb.proofs.Changing.{map_ok, writes_weaker, writes_then, writes_failed}
 use Rattle.rpm_pkgdb.proofs.BlobWrites.{count-head, parts_written, head_within, front_within, last_within}
 use Rattle.rpm_pkgdb.proofs.new_blob.write_blob.Goals as goal
@@ -63,7 +63,7 @@ returns-clause-written g c =
     let last = take c.last_units-end.result.1 c.last_units-end.result.0 in
     let F2 = (D.files c.write_some.new.disk).pkg in
     let F3 = (D.files c.write_units-2.new.disk).pkg in
-    map_ok c.write_units-2.result (λ (third : IsTrue D.tells → F3 ≡ put (c.args.start + 1 + length b / 16) (units_of last) F2) told.
+    map_ok c.write_units-2.result (λ (third : IsTrue D.tells → F3 ≡ with_units (c.args.start + 1 + length b / 16) (units_of last) F2) told.
     parts_written c.args.number c.args.generation b head front last c.blob_head-head.ensures refl c.last_units-end.ensures.bytes c.args.start
     (D.files c.args.disk.now).pkg (D.files c.write_units.new.disk).pkg F2 F3
     (c.in_ok-write_units.ensures.written told) (c.in_ok-write_some.ensures.written told) (third told)) c.write_units-2.ensures.written

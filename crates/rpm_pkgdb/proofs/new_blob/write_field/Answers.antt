@@ -1,5 +1,5 @@
 use Rattle.std.proofs.Common.{◌≡◌, ℕ, [], ◌∷◌, Option, IfSome, IsTrue, inr, sym, ap, ◌∙◌, subst, arith}
-use Rattle.rpm_pkgdb.proofs.Vocabulary.{cut_up_one, FieldTorn, next_unit, put, Torn, unit_at, Units, units_of}
+use Rattle.rpm_pkgdb.proofs.Vocabulary.{cut_up_one, FieldTorn, next_unit, with_units, Torn, unit_at, Units, units_of}
 use Rattle.rpm_pkgdb.proofs.Changing.{map_ok, writes_weaker}
 use Rattle.rpm_pkgdb.proofs.ClearLaws.{put_here}
 use Rattle.rpm_pkgdb.proofs.new_blob.write_field.Goals as goal
@@ -19,7 +19,7 @@ returns-in-Some-clause-bytes g c =
     let e : units_of unit ≡ unit ∷ [] = cut_up_one unit (omega arith) in
     let old = (D.files c.args.disk.now).pkg in
     let new = (D.files c.write_units.new.disk).pkg in
-    map_ok c.write_units.result (λ (written : IsTrue D.tells → new ≡ put 1 (units_of unit) old) told.
+    map_ok c.write_units.result (λ (written : IsTrue D.tells → new ≡ with_units 1 (units_of unit) old) told.
     subst (λ (o : Option ℕ). IfSome o (λ n. unit_at new 1 ≡ next_unit n)) (sym c.in-Some.is)
-    (ap (λ (u : Units). unit_at u 1) (written told) ∙ ap (λ (us : Units). unit_at (put 1 us old) 1) e ∙ put_here 1 unit old
+    (ap (λ (u : Units). unit_at u 1) (written told) ∙ ap (λ (us : Units). unit_at (with_units 1 us old) 1) e ∙ put_here 1 unit old
     ∙ c.next_unit.ensures.bytes)) c.write_units.ensures.written

@@ -27,13 +27,13 @@ returns-clause-writes g c =
     writes_then g.D.Disk g.met.D.Disk.follows_trans
     (writes_then g.D.Disk g.met.D.Disk.follows_trans {T = BlobTorn at n f} {most = 0} c.write_blob.ensures.writes c.write_field.ensures.writes (omega arith)
     (blocks_torn at n f) (λ x y z same torn. then_field at n f x y z same (subst (λ (o : Option ℕ). FieldTorn o y z) c.next_field.ensures torn)))
-    c.settle.ensures.writes (omega arith) (λ x y r. r) (λ x y z r same. subst (BlobTorn at n f x) (sym same) r)
+    c.sync_pkg.ensures.writes (omega arith) (λ x y r. r) (λ x y z r same. subst (BlobTorn at n f x) (sym same) r)
 
 pub returns-clause-next : goal.returns-clause-next
-returns-clause-next g c = on_ok c.settle.result (λ told.
+returns-clause-next g c = on_ok c.sync_pkg.result (λ told.
     let D = g.D.Disk in
     let mid = (D.files c.write_field.new.disk).pkg in
-    let new = (D.files c.settle.new.disk).pkg in
-    let same : new ≡ mid = c.settle.ensures.writes.changes.pkg told in
+    let new = (D.files c.sync_pkg.new.disk).pkg in
+    let same : new ≡ mid = c.sync_pkg.ensures.writes.changes.pkg told in
     subst (λ (o : Option ℕ). IfSome o (λ n. unit_at new 1 ≡ next_unit n)) c.next_field.ensures
     (subst (λ (u : Units). IfSome c.next_field.result (λ n. unit_at u 1 ≡ next_unit n)) (sym same) (c.in_ok-write_field.ensures.bytes told)))

@@ -1,7 +1,7 @@
 use Rattle.std.proofs.Common.{◌≡◌, ℕ, ◌/◌, [], List, length, sym, ap, ◌∙◌, subst, arith}
 use Rattle.std.proofs.lemmas.List.{nil_from_length}
 use Rattle.std.proofs.lemmas.Bool.Decides.{nat_tests}
-use Rattle.rpm_pkgdb.proofs.Vocabulary.{length-cut_up, put, SameOutside, Units, units_of}
+use Rattle.rpm_pkgdb.proofs.Vocabulary.{length-cut_up, with_units, SameOutside, Units, units_of}
 use Rattle.rpm_pkgdb.proofs.Changing.{writes_weaker}
 use Rattle.rpm_pkgdb.proofs.ClearLaws.{torn_outside}
 use Rattle.rpm_pkgdb.proofs.PutParts.{put_nothing}
@@ -14,7 +14,7 @@ pub returns-then-is_empty-clause-written : goal.returns-then-is_empty-clause-wri
 returns-then-is_empty-clause-written g c = λ told.
     let file = (g.D.Disk.files c.args.disk.now).pkg in
     let none : length c.args.bytes.now ≡ 0 = grind (arith, nat_tests) in
-    sym (ap (λ (us : Units). put c.args.at us file) (empty_units c.args.bytes.now none) ∙ put_nothing c.args.at file (c.requires.inside told))
+    sym (ap (λ (us : Units). with_units c.args.at us file) (empty_units c.args.bytes.now none) ∙ put_nothing c.args.at file (c.requires.inside told))
 
 pub returns-clause-writes : goal.returns-clause-writes
 returns-clause-writes g c =

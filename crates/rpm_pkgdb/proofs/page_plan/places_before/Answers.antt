@@ -3,7 +3,7 @@ use Rattle.std.proofs.lemmas.Bool.{cases_lt}
 use Rattle.std.proofs.lemmas.Grind.{common_steps}
 use Rattle.std.proofs.lemmas.List.Elements.{Contains-append_left, Contains-push}
 use Rattle.std.specs.Prelude.{Contains}
-use Rattle.rpm_pkgdb.proofs.Vocabulary.{HasPlacesBefore, HasPlacesSoFar, is_used, Slot, slot_at}
+use Rattle.rpm_pkgdb.proofs.Vocabulary.{HasPlacesSoFar, is_used, Slot, slot_at}
 use Rattle.rpm_pkgdb.proofs.Sound.{is_free}
 use Rattle.rpm_pkgdb.proofs.Pairwise.{used_below}
 use Rattle.rpm_pkgdb.proofs.page_plan.places_before.Goals.{else-slot-ne0, else-slot-ne0-via-else-slot-ne0}

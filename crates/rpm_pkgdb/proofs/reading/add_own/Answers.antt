@@ -1,6 +1,6 @@
 use Rattle.std.proofs.Common.{◌≡◌, ℕ, ◌+◌, ◌/◌, ◌<◌, List, [], ◌∷◌, ◌++◌, length, take, true, Option, None, Some, is_some, refl, sym, ap, ◌∙◌, arith, length-append}
 use Rattle.std.proofs.lemmas.List.{append-nil, length-take}
-use Rattle.rpm_pkgdb.proofs.Vocabulary.{added, length-cut_up, own_reason, Reason, Slot, slot_of, slots_in, units_of}
+use Rattle.rpm_pkgdb.proofs.Vocabulary.{slots_with, length-cut_up, own_reason, Reason, Slot, slot_of, slots_in, units_of}
 use Rattle.rpm_pkgdb.proofs.OrderLaws.{awaits_less}
 use Rattle.rpm_pkgdb.proofs.Steps.{length-slots_in, slots_in-none, slots_more}
 use Rattle.rpm_pkgdb.proofs.TableLaws.{own_more, none_of}
@@ -30,7 +30,7 @@ count bytes k old now is below =
       below,
     )
 
-added_none : (slots : List Slot) (o : Option Reason) (s : Slot) → is_some o ≡ true → added slots o s ≡ slots
+added_none : (slots : List Slot) (o : Option Reason) (s : Slot) → is_some o ≡ true → slots_with slots o s ≡ slots
 added_none slots None s some = absurd cc
 added_none slots (Some reason) s some = refl
 
@@ -56,7 +56,7 @@ loop-k-preserved c =
     let below : k < length us = omega (arith, length-cut_up (length c.args.bytes.now / 16) c.args.bytes.now) in
     let none : own_reason c.args.pages c.args.units unit ≡ None = none_of _ _ _ done.reason c.is_some.ensures c.if-is_some.false in
     let new : c.add_unit-reason.new.rising.slots.items ≡ old ++ slot_of unit ∷ [] =
-    done.slots ∙ ap (λ (o : Option Reason). added old o (slot_of unit)) (done.reason ∙ none) in
+    done.slots ∙ ap (λ (o : Option Reason). slots_with old o (slot_of unit)) (done.reason ∙ none) in
     record {
       slots = slots_more c.args.rising.slots.items old us k unit below was.slots c.unit_in.ensures.unit c.add_unit-reason.new.rising.slots.items new;
       own = own_more c.args.pages c.args.units us k unit was.own c.unit_in.ensures.unit none;

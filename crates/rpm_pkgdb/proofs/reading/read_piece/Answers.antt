@@ -1,5 +1,5 @@
 use Rattle.std.proofs.Common.{◌≡◌, ℕ, ◌/◌, IsTrue, length, take, drop, ap, ◌∙◌, arith}
-use Rattle.rpm_pkgdb.proofs.Vocabulary.{length-cut_up, table, units_of}
+use Rattle.rpm_pkgdb.proofs.Vocabulary.{length-cut_up, slot_units, units_of}
 use Rattle.rpm_pkgdb.proofs.OrderLaws.{awaits_less}
 use Rattle.rpm_pkgdb.proofs.ReadingLaws.{piece_of_table, reading_more}
 use Rattle.rpm_pkgdb.proofs.reading.read_piece.Goals as goal
@@ -27,9 +27,9 @@ returns-clause-read g c =
     let n = length c.args.bytes.now / 16 in
     let bytes = c.read_units.new.into in
     let long : length (units_of bytes) ≡ n = length-cut_up (length bytes / 16) bytes ∙ ap (λ (m : ℕ). m / 16) c.read_units.auto.into in
-    let come : Told → units_of bytes ≡ take n (drop (length old) (table pages file)) = λ told.
+    let come : Told → units_of bytes ≡ take n (drop (length old) (slot_units pages file)) = λ told.
     c.in_ok-read_units.ensures.units told
     ∙ ap (λ (m : ℕ). take n (drop m file)) (omega (arith, c.len.ensures, c.args.rising.slots.ok.0))
     ∙ piece_of_table pages (length old) n file (omega (arith, c.requires.few)) in
-    reading_more Told pages c.args.units (table pages file) old c.requires.read n (units_of bytes) long come c.add_own.result c.add_own.ensures.adds
+    reading_more Told pages c.args.units (slot_units pages file) old c.requires.read n (units_of bytes) long come c.add_own.result c.add_own.ensures.adds
     c.add_own.ensures.numbered

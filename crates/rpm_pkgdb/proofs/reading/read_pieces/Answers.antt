@@ -1,6 +1,6 @@
 use Rattle.std.proofs.Common.{◌≡◌, ◌*◌, ◌-◌, IsTrue, length, take, None, refl, ap, arith}
 use Rattle.std.proofs.lemmas.List.{length-take}
-use Rattle.rpm_pkgdb.proofs.Vocabulary.{Files, looks_more, looks_none, Pkg, table}
+use Rattle.rpm_pkgdb.proofs.Vocabulary.{Files, looks_more, looks_none, Pkg, slot_units}
 use Rattle.rpm_pkgdb.proofs.Changing.{reads_on, reads_then}
 use Rattle.rpm_pkgdb.proofs.ReadingLaws.{nothing_read, read_of, read_count}
 use Rattle.rpm_pkgdb.proofs.TableLaws.{none_of}
@@ -29,9 +29,9 @@ loop-k-preserved g c =
     let more = c.min-more.result in
     let part : length (take (16 * more) buffer) ≡ 16 * more = omega (arith, length-take (16 * more) buffer, c.min-more.ensures) in
     record {
-      read = read_of (IsTrue g.D.Disk.tells) pages c.args.units (table pages (g.D.Disk.files c.loop-k.disk).pkg)
-          (table pages (g.D.Disk.files c.args.disk.now).pkg) c.in_ok-reading.reading.rising.slots.items
-          (λ told. ap (λ (f : Files). table pages f.pkg) (was.reads.looks.untouched told).same) done.read.slots;
+      read = read_of (IsTrue g.D.Disk.tells) pages c.args.units (slot_units pages (g.D.Disk.files c.loop-k.disk).pkg)
+          (slot_units pages (g.D.Disk.files c.args.disk.now).pkg) c.in_ok-reading.reading.rising.slots.items
+          (λ told. ap (λ (f : Files). slot_units pages f.pkg) (was.reads.looks.untouched told).same) done.read.slots;
       count = omega (arith, was.count, all, part, c.min-more.ensures, c.loop-k-test.true);
       order = done.order;
       awaits = done.awaits (256 * pages - 2) was.awaits;

@@ -1,6 +1,6 @@
 use Rattle.std.proofs.Common.{IfErr, List, [], ◌∷◌, ◌++◌, length, refl, sym, ap, ◌∙◌, subst, arith}
 use Rattle.std.proofs.lemmas.List.{length-take, take_all, take_more}
-use Rattle.rpm_pkgdb.proofs.Vocabulary.{find_in, free, HasPlaces, meeting, SaysHere, Slot, slot_at}
+use Rattle.rpm_pkgdb.proofs.Vocabulary.{find_in, free, HasPlaces, first_shared_fault, SaysHere, Slot, slot_at}
 use Rattle.rpm_pkgdb.proofs.Changing.{err_given}
 use Rattle.rpm_pkgdb.proofs.MeetingLaws.{meeting_more, meeting_says}
 use Rattle.rpm_pkgdb.proofs.table.exact_numbers.Goals as goal
@@ -19,7 +19,7 @@ add-requires c = record {
 
 pub returns-in_err-add-clause-says : goal.returns-in_err-add-clause-says
 returns-in_err-add-clause-says c =
-    err_given (λ r. IfErr r (λ e. SaysHere e (meeting [] c.args.slots.now))) _ c.from_residual.result c.from_residual.ensures
+    err_given (λ r. IfErr r (λ e. SaysHere e (first_shared_fault [] c.args.slots.now))) _ c.from_residual.result c.from_residual.ensures
     (meeting_says c.args.slots.now c.loop-k.opening.slots.items c.loop-k.k c.loop-k-test.true c.loop-k.invariant.slots c.loop-k.invariant.none
     _ c.in_err-add.ensures.says)
 
@@ -47,4 +47,4 @@ returns-clause-places c =
 
 pub returns-clause-sound : goal.returns-clause-sound
 returns-clause-sound c =
-    ap (meeting []) (sym (take_all c.loop-k.k c.args.slots.now c.loop-k-test.false)) ∙ c.loop-k.invariant.none
+    ap (first_shared_fault []) (sym (take_all c.loop-k.k c.args.slots.now c.loop-k-test.false)) ∙ c.loop-k.invariant.none

@@ -1,5 +1,5 @@
 use Rattle.std.proofs.Common.{◌≡◌, [], ◌∷◌, sym, subst, ap, ◌∙◌, arith}
-use Rattle.rpm_pkgdb.proofs.Vocabulary.{cut_up_one, Files, put, Torn, Units, units_of}
+use Rattle.rpm_pkgdb.proofs.Vocabulary.{cut_up_one, with_units, Torn, Units, units_of}
 use Rattle.rpm_pkgdb.proofs.Changing.{on_ok, writes_failed, writes_then, writes_weaker}
 use Rattle.rpm_pkgdb.proofs.units.write_one.Goals as goal
 
@@ -8,7 +8,7 @@ returns-clause-writes g c =
     let unit = c.args.unit.now in
     let e : units_of unit ≡ unit ∷ [] = cut_up_one unit c.told-unit in
     let T = Torn c.args.at (unit ∷ []) in
-    writes_then g.D.Disk g.met.D.Disk.follows_trans c.write_units.ensures.writes c.settle.ensures.writes (omega arith)
+    writes_then g.D.Disk g.met.D.Disk.follows_trans c.write_units.ensures.writes c.sync_pkg.ensures.writes (omega arith)
     (λ x y r. subst (λ (us : Units). Torn c.args.at us x y) e r)
     (λ x y z r same. subst (T x) (sym same) (subst (λ (us : Units). Torn c.args.at us x y) e r))
 
@@ -20,8 +20,8 @@ returns-in_err-write_units-clause-writes g c =
     (λ x y r. subst (λ (us : Units). Torn c.args.at us x y) e r)
 
 pub returns-clause-written : goal.returns-clause-written
-returns-clause-written g c = on_ok c.settle.result (λ told.
+returns-clause-written g c = on_ok c.sync_pkg.result (λ told.
     let unit = c.args.unit.now in
     let e : units_of unit ≡ unit ∷ [] = cut_up_one unit c.told-unit in
-    c.settle.ensures.writes.changes.pkg told
-    ∙ (c.in_ok-write_units.ensures.written told ∙ ap (λ (us : Units). put c.args.at us (g.D.Disk.files c.args.disk.now).pkg) e))
+    c.sync_pkg.ensures.writes.changes.pkg told
+    ∙ (c.in_ok-write_units.ensures.written told ∙ ap (λ (us : Units). with_units c.args.at us (g.D.Disk.files c.args.disk.now).pkg) e))

@@ -1,5 +1,5 @@
-use Rattle.rpm_print.proofs.Vocabulary.{bearer, buffered, inner, meaning, sizes_line}
-use Rattle.rpm_print.specs.inner.Printing.{told_counts, print_stopped, print_flushed}
+use Rattle.rpm_print.proofs.Vocabulary.{bearer, buffer_sink, inner, meaning, sizes_line}
+use Rattle.rpm_print.specs.laws.Printing.{told_counts, print_stopped, print_flushed}
 use Rattle.rpm_print.proofs.step.print_header.Goals as goal
 
 pub returns-in-Ok-flush-clause-step : goal.returns-in-Ok-flush-clause-step
@@ -24,5 +24,6 @@ pub returns-in-Err-SizesDiffer-clause-step : goal.returns-in-Err-SizesDiffer-cla
 unfolding sizes_line
 returns-in-Err-SizesDiffer-clause-step g c = λ j.
     let p = rw c.in-Err-SizesDiffer.field-0-is at c.in-Err-SizesDiffer.ensures.prints in
-    let told = told_counts (buffered g.O.Sink) (meaning c.args.view.now c.args.number c.args.format.now) c.clear.new.self c.print_direct.new.sink _ _ p.ends in
+    let told = told_counts (buffer_sink g.O.Sink) (meaning c.args.view.now c.args.number c.args.format.now) c.clear.new.self c.print_direct.new.sink _ _
+    p.ends in
     rw (told.0, told.1, c.clear.ensures.inner) (c.put_message.ensures.step (bearer j c.args.number) g.O.Sink.tells (g.O.Sink.taken (inner c.args.out.now)))

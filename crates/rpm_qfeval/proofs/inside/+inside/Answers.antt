@@ -1,5 +1,5 @@
 use Rattle.std.proofs.Common.{arith, length, ◌≤◌, refl, sym, ◌∙◌}
-use Rattle.rpm_qfeval.proofs.Vocabulary.{bytes, parts_of, upto_done, upto_more, upto_start, upto_stop}
+use Rattle.rpm_qfeval.proofs.Vocabulary.{bytes, parts_of_tree, upto_done, upto_more, upto_start, upto_stop}
 use Rattle.rpm_qfeval.proofs.Walked.{bytes_start, bytes_here, bytes_end}
 use Rattle.rpm_qfeval.proofs.inside.+inside.Goals as goal
 
@@ -23,7 +23,7 @@ put_inner_parts-returns-in_err-put_inner_part g t c = record {
 
 pub put_inner_parts-returns : goal.put_inner_parts-returns
 put_inner_parts-returns g t c =
-    let le : length (parts_of c.args.parts.now) ≤ c.loop-i.i = omega arith in
+    let le : length (parts_of_tree c.args.parts.now) ≤ c.loop-i.i = omega arith in
     record {
       puts = upto_done {all = bytes c.args.view.now c.args.number c.args.round c.args.parts.now} (bytes_end c.args.view.now c.args.number
           c.args.round c.loop-i.i c.args.parts.now le) c.loop-i.invariant.1;

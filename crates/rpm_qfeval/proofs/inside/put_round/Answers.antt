@@ -1,5 +1,5 @@
 use Rattle.std.proofs.Common.{arith, length, ◌≤◌, refl, sym, ◌∙◌}
-use Rattle.rpm_qfeval.proofs.Vocabulary.{bytes, parts_of, upto_done, upto_more, upto_start, upto_stop}
+use Rattle.rpm_qfeval.proofs.Vocabulary.{bytes, parts_of_tree, upto_done, upto_more, upto_start, upto_stop}
 use Rattle.rpm_qfeval.proofs.Walked.{bytes_start, bytes_here, bytes_end}
 use Rattle.rpm_qfeval.proofs.inside.put_round.Goals as goal
 
@@ -25,6 +25,6 @@ returns-in_err-put_part_at-clause-puts g c =
 
 pub returns-clause-puts : goal.returns-clause-puts
 returns-clause-puts g c =
-    let le : length (parts_of c.args.inner.now) ≤ c.loop-i.i = omega arith in
+    let le : length (parts_of_tree c.args.inner.now) ≤ c.loop-i.i = omega arith in
     upto_done {all = bytes c.args.view.now c.args.number c.args.round c.args.inner.now} (bytes_end c.args.view.now c.args.number
     c.args.round c.loop-i.i c.args.inner.now le) c.loop-i.invariant.upto

@@ -1,14 +1,14 @@
 use Rattle.std.proofs.Common.{◌≡◌, ℕ, ◌-◌, Bool, true, false, List, ◌++◌, length, replicate, sym, ap, ◌∙◌}
-use Rattle.rpm_qfeval.proofs.Vocabulary.{both, first_stops, padded}
+use Rattle.rpm_qfeval.proofs.Vocabulary.{both, first_stops, padded_text}
 use Rattle.rpm_qfeval.proofs.pieces.put_padded.Goals as goal
 
 at_left : (left : Bool) (width spaces : ℕ) (text : List ℕ) → spaces ≡ width - length text → left ≡ true → text ++ replicate {A = ℕ} spaces 32
-    ≡ padded left width text
-at_left left width spaces text e is = ap (λ n. text ++ replicate {A = ℕ} n 32) e ∙ sym (ap (λ b. padded b width text) is)
+    ≡ padded_text left width text
+at_left left width spaces text e is = ap (λ n. text ++ replicate {A = ℕ} n 32) e ∙ sym (ap (λ b. padded_text b width text) is)
 
 at_right : (left : Bool) (width spaces : ℕ) (text : List ℕ) → spaces ≡ width - length text → left ≡ false → replicate {A = ℕ} spaces 32 ++ text
-    ≡ padded left width text
-at_right left width spaces text e is = ap (λ n. replicate {A = ℕ} n 32 ++ text) e ∙ sym (ap (λ b. padded b width text) is)
+    ≡ padded_text left width text
+at_right left width spaces text e is = ap (λ n. replicate {A = ℕ} n 32 ++ text) e ∙ sym (ap (λ b. padded_text b width text) is)
 
 pub returns-in_err-put_shown : goal.returns-in_err-put_shown
 returns-in_err-put_shown g c = first_stops _ c.from_residual.result c.from_residual.ensures.0 (at_left c.args.left c.args.width c.lack-spaces.result _

@@ -1,5 +1,5 @@
 use Rattle.std.proofs.Common.{arith, length, ◌≤◌}
-use Rattle.rpm_qfeval.proofs.Vocabulary.{parts_of}
+use Rattle.rpm_qfeval.proofs.Vocabulary.{parts_of_tree}
 use Rattle.rpm_qfeval.proofs.Walked.{sizes_start, sizes_next, sizes_found, sizes_end}
 use Rattle.rpm_qfeval.proofs.sizes.+sizing.Goals as goal
 
@@ -16,5 +16,5 @@ sizes-returns-in-Some t c = sizes_found c.args.view.now c.args.number c.loop-i.i
 
 pub sizes-returns : goal.sizes-returns
 sizes-returns t c =
-    let le : length (parts_of c.args.parts.now) ≤ c.loop-i.i = omega arith in
+    let le : length (parts_of_tree c.args.parts.now) ≤ c.loop-i.i = omega arith in
     sizes_end c.args.view.now c.args.number c.loop-i.i c.args.parts.now le c.loop-i.invariant

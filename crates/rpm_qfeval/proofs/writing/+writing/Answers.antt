@@ -1,5 +1,5 @@
 use Rattle.std.proofs.Common.{arith, length, ◌≤◌, sym}
-use Rattle.rpm_qfeval.proofs.Vocabulary.{bytes, parts_of, upto_done, upto_more, upto_start, upto_stop}
+use Rattle.rpm_qfeval.proofs.Vocabulary.{bytes, parts_of_tree, upto_done, upto_more, upto_start, upto_stop}
 use Rattle.rpm_qfeval.proofs.Walked.{bytes_start, bytes_here, bytes_end}
 use Rattle.rpm_qfeval.proofs.writing.+writing.Goals as goal
 
@@ -18,6 +18,6 @@ put_parts-returns-in_err-put_part g t c =
 
 pub put_parts-returns : goal.put_parts-returns
 put_parts-returns g t c =
-    let le : length (parts_of c.args.parts.now) ≤ c.loop-i.i = omega arith in
+    let le : length (parts_of_tree c.args.parts.now) ≤ c.loop-i.i = omega arith in
     upto_done {all = bytes c.args.view.now c.args.number 0 c.args.parts.now} (bytes_end c.args.view.now c.args.number 0 c.loop-i.i
     c.args.parts.now le) c.loop-i.invariant

@@ -2,7 +2,7 @@ use Rattle.std.proofs.Common.{ℕ, ◌+◌, ◌<◌, ◌≤◌, Ok, Err, true, s
 use Rattle.std.proofs.lemmas.Result.{err_from_is_err_and}
 use Rattle.rpm_qfparse.specs.declared.moves.Context.TheVariants as context
 use Rattle.rpm_qfparse.specs.declared.fault.Stop.TheVariants as stop
-use Rattle.rpm_qfparse.proofs.Vocabulary.{after, bare_fault, behind, behind_second, between, Bracket, bracket, Branches, Condition, condition, End, ends}
+use Rattle.rpm_qfparse.proofs.Vocabulary.{in_front_of, bare_fault, behind_part, behind_second, between, Bracket, bracket, Branches, Condition, condition, End, ends}
 use Rattle.rpm_qfparse.proofs.Vocabulary.{Gives, in_bracket, in_condition, in_first, in_second, literal, one, stops, tag, Tagged, two, with_byte}
 use Rattle.rpm_qfparse.proofs.Drafts.{behind_behind}
 use Rattle.rpm_qfparse.proofs.Exits.{stopped, passed_on}
@@ -62,9 +62,9 @@ read-loop-behind-smaller-in-Literal t c = moved _ _ _ _ _ (sym c.in-Literal.ensu
 pub read-loop-behind-preserved-in-Literal : goal.read-loop-behind-preserved-in-Literal
 read-loop-behind-preserved-in-Literal t c = λ a g.
     subst (Gives c.args.context c.args.in_bracket c.args.depth c.args.text.now)
-    (behind_behind (after c.push_byte.new.self) (with_byte c.in-Literal.byte) (after c.loop-behind.draft)
+    (behind_behind (in_front_of c.push_byte.new.self) (with_byte c.in-Literal.byte) (in_front_of c.loop-behind.draft)
     (λ rest. sym (c.in_ok-push_byte-in-Literal.ensures rest)) a)
-    (c.loop-behind.invariant (behind (with_byte c.in-Literal.byte) a) (literal (sym c.in-Literal.ensures.value) g))
+    (c.loop-behind.invariant (behind_part (with_byte c.in-Literal.byte) a) (literal (sym c.in-Literal.ensures.value) g))
 
 pub read-loop-behind-smaller-in-Shows : goal.read-loop-behind-smaller-in-Shows
 read-loop-behind-smaller-in-Shows t c = moved _ _ _ _ _ (sym c.in-Shows.ensures.value)
@@ -72,8 +72,9 @@ read-loop-behind-smaller-in-Shows t c = moved _ _ _ _ _ (sym c.in-Shows.ensures.
 pub read-loop-behind-preserved-in-Shows : goal.read-loop-behind-preserved-in-Shows
 read-loop-behind-preserved-in-Shows t c = λ a g.
     subst (Gives c.args.context c.args.in_bracket c.args.depth c.args.text.now)
-    (behind_behind (after c.push.new.self) (Tagged c.in-Shows.part) (after c.loop-behind.draft) (λ rest. sym (c.in_ok-push-in-Shows.ensures rest)) a)
-    (c.loop-behind.invariant (behind (Tagged c.in-Shows.part) a) (tag (sym c.in-Shows.ensures.value) g))
+    (behind_behind (in_front_of c.push.new.self) (Tagged c.in-Shows.part) (in_front_of c.loop-behind.draft)
+    (λ rest. sym (c.in_ok-push-in-Shows.ensures rest)) a)
+    (c.loop-behind.invariant (behind_part (Tagged c.in-Shows.part) a) (tag (sym c.in-Shows.ensures.value) g))
 
 pub read-returns-in_err-parts-in-Opens : goal.read-returns-in_err-parts-in-Opens
 read-returns-in_err-parts-in-Opens t c =
@@ -89,9 +90,9 @@ read-loop-behind-smaller-in-Opens t c = further (moved _ _ _ _ _ (sym c.in-Opens
 pub read-loop-behind-preserved-in-Opens : goal.read-loop-behind-preserved-in-Opens
 read-loop-behind-preserved-in-Opens t c = λ a g.
     subst (Gives c.args.context c.args.in_bracket c.args.depth c.args.text.now)
-    (behind_behind (after c.push-in-Opens.new.self) (Bracket c.in_ok-parts-in-Opens.parts) (after c.loop-behind.draft)
+    (behind_behind (in_front_of c.push-in-Opens.new.self) (Bracket c.in_ok-parts-in-Opens.parts) (in_front_of c.loop-behind.draft)
     (λ rest. sym (c.in_ok-push-in-Opens.ensures rest)) a)
-    (c.loop-behind.invariant (behind (Bracket c.in_ok-parts-in-Opens.parts) a) (bracket (sym c.in-Opens.ensures.value) c.in_ok-parts-in-Opens.ensures g))
+    (c.loop-behind.invariant (behind_part (Bracket c.in_ok-parts-in-Opens.parts) a) (bracket (sym c.in-Opens.ensures.value) c.in_ok-parts-in-Opens.ensures g))
 
 pub read-returns-in_err-first-in-Asks : goal.read-returns-in_err-first-in-Asks
 read-returns-in_err-first-in-Asks t c =
@@ -107,7 +108,7 @@ read-loop-behind-smaller t c = further (moved _ _ _ _ _ (sym c.in-Asks.ensures.v
 pub read-loop-behind-preserved : goal.read-loop-behind-preserved
 read-loop-behind-preserved t c = λ a g.
     subst (Gives c.args.context c.args.in_bracket c.args.depth c.args.text.now)
-    (behind_behind (after c.push-in-Asks.new.self) (Condition c.in-Asks.tag c.in_ok-first-in-Asks.first c.in_ok-first-in-Asks.second)
-    (after c.loop-behind.draft) (λ rest. sym (c.in_ok-push-in-Asks.ensures rest)) a)
-    (c.loop-behind.invariant (behind (Condition c.in-Asks.tag c.in_ok-first-in-Asks.first c.in_ok-first-in-Asks.second) a)
+    (behind_behind (in_front_of c.push-in-Asks.new.self) (Condition c.in-Asks.tag c.in_ok-first-in-Asks.first c.in_ok-first-in-Asks.second)
+    (in_front_of c.loop-behind.draft) (λ rest. sym (c.in_ok-push-in-Asks.ensures rest)) a)
+    (c.loop-behind.invariant (behind_part (Condition c.in-Asks.tag c.in_ok-first-in-Asks.first c.in_ok-first-in-Asks.second) a)
     (condition (sym c.in-Asks.ensures.value) c.in_ok-first-in-Asks.ensures g))

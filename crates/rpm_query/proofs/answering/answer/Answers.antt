@@ -1,25 +1,25 @@
-use Rattle.rpm_query.proofs.Vocabulary.{Halt, IsOfChain, missing_part, packages_in, picks, Selection, shown, whole}
+use Rattle.rpm_query.proofs.Vocabulary.{Halt, IsOfChain, missing_part, packages_in, picks, Selection, shown_outputs, whole_step}
 use Rattle.std.proofs.Common.{◌≡◌, Option, Some, Err, refl, sym, ◌∙◌, subst, arith}
 use Rattle.std.proofs.lemmas.Result.{err_from_is_err_and}
-use Rattle.rpm_effects.specs.inner.Joins.{hand_then}
-use Rattle.rpm_query.specs.inner.Answering.{answered_done, answered_halt, answered_missed, answered_stop}
-use Rattle.rpm_effects.specs.inner.Parts.{part_reads}
+use Rattle.rpm_effects.specs.laws.Joins.{hand_then}
+use Rattle.rpm_query.specs.laws.Answering.{answered_done, answered_halt, answered_missed, answered_stop}
+use Rattle.rpm_effects.specs.laws.Parts.{part_reads}
 use Rattle.rpm_query.proofs.Looked.{both_read}
 use Rattle.rpm_query.proofs.Nexts.{any_here, recalled_here}
 use Rattle.rpm_query.proofs.Picking.{picking_part, picking_peeks, picking_peeks_both, picking_reads}
 use Rattle.rpm_query.proofs.Questions.{picked_is, chain_same}
-use Rattle.rpm_query.specs.inner.Unbroken.{part_unbroken, chain_unbroken, chain_of}
+use Rattle.rpm_query.specs.laws.Unbroken.{part_unbroken, chain_unbroken, chain_of}
 use Rattle.rpm_query.proofs.answering.answer.Goals as goal
 
 -- ---- no question
 
 pub returns-in-None-clause-went : goal.returns-in-None-clause-went
 returns-in-None-clause-went g c = λ told rows holds j.
-    let old = shown g.O.Sink g.E.Sink c.args.out.now c.args.err.now in
-    let new = shown g.O.Sink g.E.Sink c.put_missing_part.new.out c.put_missing_part.new.err in
+    let old = shown_outputs g.O.Sink g.E.Sink c.args.out.now c.args.err.now in
+    let new = shown_outputs g.O.Sink g.E.Sink c.put_missing_part.new.out c.put_missing_part.new.err in
     rw (picked_is (packages_in g.D.Disk c.args.disk.now c.args.db.now) c.args.chosen c.args.text
     (sym c.question_of.ensures ∙ c.in-None.is))
-    (part_reads (missing_part c.args.chosen j c.args.text.now) c.put_missing_part.result old new (λ b. b ≡ whole j) _
+    (part_reads (missing_part c.args.chosen j c.args.text.now) c.put_missing_part.result old new (λ b. b ≡ whole_step j) _
     (λ b is. rw is (refl, omega arith)) (rw c.as_bytes.ensures.value at (c.put_missing_part.ensures.part j)))
 
 pub returns-in-None-clause-bad_index : goal.returns-in-None-clause-bad_index

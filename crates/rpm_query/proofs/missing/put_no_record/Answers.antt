@@ -1,4 +1,4 @@
-use Rattle.rpm_effects.specs.inner.Stopping.{err_cut}
+use Rattle.rpm_effects.specs.laws.Stopping.{err_cut}
 use Rattle.rpm_query.proofs.missing.put_no_record.Goals as goal
 
 pub returns-in-Err-clause-part : goal.returns-in-Err-clause-part

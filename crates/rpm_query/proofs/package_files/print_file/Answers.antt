@@ -1,6 +1,6 @@
 use Rattle.std.proofs.Common.{ℕ, List, Option, sym, subst}
-use Rattle.rpm_query.proofs.Vocabulary.{Anywhere, bytes_at, found_part, inner, outputs, PartIs, Portion, whole}
-use Rattle.rpm_effects.specs.inner.Failing.{line_part}
+use Rattle.rpm_query.proofs.Vocabulary.{Anywhere, bytes_at, found_part, inner, outputs, PartIs, Portion, whole_step}
+use Rattle.rpm_effects.specs.laws.Failing.{line_part}
 use Rattle.rpm_query.proofs.Filed.{found_open}
 use Rattle.rpm_query.proofs.package_files.print_file.Goals as goal
 
@@ -23,4 +23,4 @@ returns-in-Err-clause-went g c = λ told j.
     (outputs g.O.Sink.tells o g.E.Sink.tells (g.E.Sink.taken (inner c.put_absent.new.err))) Anywhere)
     (sym opened.1)
     (rw c.answer_of_line.ensures
-    (line_part g.E.Sink c.put_absent.result (rw c.as_bytes-in-Err.ensures.value at c.put_absent.ensures) (whole j) g.O.Sink.tells o))
+    (line_part g.E.Sink c.put_absent.result (rw c.as_bytes-in-Err.ensures.value at c.put_absent.ensures) (whole_step j) g.O.Sink.tells o))

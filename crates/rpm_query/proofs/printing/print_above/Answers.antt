@@ -1,13 +1,13 @@
 use Rattle.rpm_query.proofs.Vocabulary.{Bearer, entry_in, Halt, inner, next_picked, packages_in, pkg_read, PrintedPackages, reach_some}
-use Rattle.rpm_query.proofs.Vocabulary.{ReadsIn, shown, step_by}
+use Rattle.rpm_query.proofs.Vocabulary.{ReadsIn, shown_outputs, step_by}
 use Rattle.std.proofs.Common.{◌≡◌, ◌<◌, Bool, Result, Ok, Err, Some, None, refl, sym, ap, ◌∙◌, subst, arith, rules}
 use Rattle.std.proofs.lemmas.Result.{err_from_is_err_and}
 use Rattle.rpm_effects.specs.declared.tally.Halt.TheVariants as halt
 use Rattle.rpm_query.proofs.Looked.{look_within, looks_next, looks_rest, looks_within, rest_read}
 use Rattle.rpm_query.proofs.Nexts.{next_here, printed_none, printed_next, printed_last, recalled_here, some_last, printed_stops}
-use Rattle.rpm_print.specs.inner.Printed.{bearer-step_by, number-entry}
-use Rattle.rpm_print.specs.inner.Reached.{reach_then}
-use Rattle.rpm_query.specs.inner.Unbroken.{step_unbroken}
+use Rattle.rpm_print.specs.laws.Printed.{bearer-step_by, number-entry}
+use Rattle.rpm_print.specs.laws.Reached.{reach_then}
+use Rattle.rpm_query.specs.laws.Unbroken.{step_unbroken}
 use Rattle.rpm_query.proofs.printing.print_above.Goals as goal
 
 pub loop-next-init : goal.loop-next-init
@@ -138,7 +138,7 @@ returns-in_err-to_out-in-Ok-Some-clause-went g c = λ told serves holds j.
     let same : (entry_in p).0 ≡ m = number-entry p ∙ held.number in
     let q = err_from_is_err_and c.from_residual.result c.from_residual.ensures.1 in
     rw (q.1, q.2) (printed_stops (inv.printed told serves holds) (next_picked all sel n (entry_in p) next.0 next.1) j
-    (subst (λ (b : Bearer). reads b) (sym (bearer-step_by c.args.deed c.args.format.now j (entry_in p))) (refl, rw same read))
+    (subst (λ (b : Bearer). reads b) (sym (bearer-step_by c.args.request c.args.format.now j (entry_in p))) (refl, rw same read))
     (rw c.in_err-to_out-in-Ok-Some.was at (c.print_picked.ensures.step j)))
 
 pub returns-in_err-to_out-in-Ok-Some-clause-recalls : goal.returns-in_err-to_out-in-Ok-Some-clause-recalls
@@ -177,6 +177,6 @@ returns-in_err-to_out-in-Ok-Some-clause-unbroken g c = λ unit same.
     let q = err_from_is_err_and c.from_residual.result c.from_residual.ensures.1 in
     let both : failed what ≡ failed (halt.BadIndex unit) = rw (q.1, q.2) at same in
     let is : what ≡ halt.BadIndex unit = cc in
-    step_unbroken (step_by c.args.deed c.args.format.now 0 (entry_in c.in-Some.picked.now)) printed.result
-    (shown g.O.Sink g.E.Sink c.loop-next.out c.loop-next.err)
-    (shown g.O.Sink g.E.Sink printed.new.out printed.new.err) (printed.ensures.step 0) unit (c.in_err-to_out-in-Ok-Some.was ∙ ap stopped is)
+    step_unbroken (step_by c.args.request c.args.format.now 0 (entry_in c.in-Some.picked.now)) printed.result
+    (shown_outputs g.O.Sink g.E.Sink c.loop-next.out c.loop-next.err)
+    (shown_outputs g.O.Sink g.E.Sink printed.new.out printed.new.err) (printed.ensures.step 0) unit (c.in_err-to_out-in-Ok-Some.was ∙ ap stopped is)

@@ -1,13 +1,13 @@
 use Rattle.std.proofs.Common.{◌+◌, ◌-◌, ◌^◌, ◌≤◌}
 use Rattle.std.specs.Prelude.{IsTrue}
-use Rattle.rpm_query.proofs.Vocabulary.{cost_to, inner, Looks, packages_in, picks, Pkg, pkg_read, reach_to, Recalls, Serves, step_by}
+use Rattle.rpm_query.proofs.Vocabulary.{packages_cost_to, inner, OnlyReads, packages_in, picks, Pkg, pkg_read, reach_to, Recalls, Serves, step_by}
 use Rattle.rpm_query.proofs.Nexts.{PrintedTo}
 use Rattle.rpm_query.proofs.printing.print_above.Given as goal
 
 abbrev pub invariant-loop-next : goal.invariant-loop-next
 invariant-loop-next g l = record {
   later : l.after ≤ l.number;
-  looks : Looks g.D.Disk Pkg (cost_to l.number l.db - cost_to l.after l.db) l.initial.disk l.disk;
+  looks : OnlyReads g.D.Disk Pkg (packages_cost_to l.number l.db - packages_cost_to l.after l.db) l.initial.disk l.disk;
   reads : pkg_read g.D.Disk l.disk + reach_to l.after l.picker l.db
       ≤ pkg_read g.D.Disk l.initial.disk + reach_to l.number l.picker l.db;
   recalls : IsTrue g.D.Disk.tells → Recalls (packages_in g.D.Disk l.initial.disk l.db) l.initial.recent
@@ -19,7 +19,7 @@ invariant-loop-next g l = record {
   err_rest : g.E.Sink.follows (inner l.initial.err) (inner l.err);
   printed : IsTrue g.D.Disk.tells → Serves l.picker (packages_in g.D.Disk l.initial.disk l.db) l.selection
       → Recalls (packages_in g.D.Disk l.initial.disk l.db) l.initial.recent
-      → PrintedTo (step_by l.deed l.format) (picks (packages_in g.D.Disk l.initial.disk l.db) l.selection) l.after l.number l.some l.fails g.O.Sink.tells
+      → PrintedTo (step_by l.request l.format) (picks (packages_in g.D.Disk l.initial.disk l.db) l.selection) l.after l.number l.some l.fails g.O.Sink.tells
       g.E.Sink.tells (g.O.Sink.taken (inner l.initial.out)) (g.E.Sink.taken (inner l.initial.err)) (g.O.Sink.taken (inner l.out))
       (g.E.Sink.taken (inner l.err));
 }

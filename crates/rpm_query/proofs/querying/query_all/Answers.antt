@@ -1,14 +1,14 @@
-use Rattle.rpm_query.proofs.Vocabulary.{Bearer, before, Everything, Files, idle, inner, outputs, packages, packages_in, packages_part, PartIs, picks, Pkg, Portion, Reach}
-use Rattle.rpm_query.proofs.Vocabulary.{PartProgress, reached_by, ReadsIn, room, Step, step_by, CommandProgress, Why}
+use Rattle.rpm_query.proofs.Vocabulary.{Bearer, before_others, Everything, Files, idle, inner, outputs, packages, packages_in, packages_part, PartIs, picks, Pkg, Portion, Reach}
+use Rattle.rpm_query.proofs.Vocabulary.{PartProgress, reached_by, ReadsIn, store_of, Step, step_by, CommandProgress, Why}
 use Rattle.std.proofs.Common.{◌≡◌, ◌+◌, ◌-◌, ◌≤◌, Bool, List, [], ◌∷◌, Err, sym, subst, arith}
 use Rattle.std.proofs.lemmas.List.{append-nil}
-use Rattle.rpm_db.specs.Database.{cost_all, cost_to}
-use Rattle.rpm_outside.specs.inner.Looking.{looks_then}
+use Rattle.rpm_db.specs.Database.{packages_cost, packages_cost_to}
+use Rattle.rpm_outside.specs.laws.Looking.{looks_then}
 use Rattle.rpm_select.specs.declared.selection.Selection.TheVariants as question
-use Rattle.rpm_query.specs.inner.Sums.{reads_one}
-use Rattle.rpm_effects.specs.inner.Stopping.{reached_reads}
-use Rattle.rpm_effects.specs.inner.Parts.{went_stop}
-use Rattle.rpm_print.specs.inner.Askable.{asked_still}
+use Rattle.rpm_query.specs.laws.Sums.{reads_one}
+use Rattle.rpm_effects.specs.laws.Stopping.{reached_reads}
+use Rattle.rpm_effects.specs.laws.Parts.{went_stop}
+use Rattle.rpm_print.specs.laws.Askable.{asked_still}
 use Rattle.rpm_query.proofs.querying.query_all.Goals as goal
 
 pub print_above-requires : goal.print_above-requires
@@ -21,13 +21,13 @@ print_above-requires g c = record {
 pub returns-clause-went : goal.returns-clause-went
 returns-clause-went g c = λ told rows.
     let db = c.args.db.now in
-    let s = (room db) in
+    let s = (store_of db) in
     let old = outputs g.O.Sink.tells (g.O.Sink.taken (inner c.args.out.now)) g.E.Sink.tells (g.E.Sink.taken (inner c.args.err.now)) in
     let new = outputs g.O.Sink.tells (g.O.Sink.taken (inner c.print_above.new.out)) g.E.Sink.tells (g.E.Sink.taken (inner c.print_above.new.err)) in
     let start = g.D.Disk.bytes_read c.args.disk.now Pkg in
     let between = g.D.Disk.bytes_read c.begin_unasked-picker.new.disk Pkg in
     let now = g.D.Disk.bytes_read c.print_above.new.disk Pkg in
-    let part_of : Files → Portion = λ f. packages_part (step_by c.args.deed c.args.format.now 0) c.args.after (picks (packages f.pkg s) question.All) in
+    let part_of : Files → Portion = λ f. packages_part (step_by c.args.request c.args.format.now 0) c.args.after (picks (packages f.pkg s) question.All) in
     let part = part_of (g.D.Disk.files c.args.disk.now) in
     let reads : Bearer → Type 0 = λ for. now ≤ start + reached_by (Everything ∷ []) db for in
     let what = c.in-Err.halt in
@@ -39,8 +39,8 @@ returns-clause-went g c = λ told rows.
     (subst (λ (r : Reach). PartIs (part_of begun) (Err what) old new (ReadsIn 0 c.args.after r db between now)) is
     (c.in-Err.ensures.went told (c.begin_unasked-picker.ensures.serves told rows)
     (c.new.ensures (packages_in g.D.Disk c.begin_unasked-picker.new.disk db)) 0)) in
-    subst (λ (w : Why). CommandProgress (before part idle) w old new reads) (sym c.from.ensures)
-    (went_stop Bool (before part idle) what old new reads
+    subst (λ (w : Why). CommandProgress (before_others part idle) w old new reads) (sym c.from.ensures)
+    (went_stop Bool (before_others part idle) what old new reads
     (subst (λ (ss : List Step). PartProgress {T = Bool} ss (Err what) old new reads) (sym (append-nil part.steps))
     (reached_reads {T = Bool} part.steps (Err what) old new (ReadsIn 0 c.args.after Everything db between now) reads
     (λ b r. reads_one Everything db c.args.after start between now b c.begin_unasked-picker.ensures.looks.reads.pkg r) done.steps)))
@@ -49,5 +49,5 @@ pub returns-clause-looks : goal.returns-clause-looks
 returns-clause-looks g c =
     let db = c.args.db.now in
     let first = c.begin_unasked-picker in
-    looks_then g.D.Disk Pkg g.met.D.Disk.follows_trans 0 (cost_all db - cost_to c.args.after db) (cost_all db) c.args.disk.now first.new.disk
+    looks_then g.D.Disk Pkg g.met.D.Disk.follows_trans 0 (packages_cost db - packages_cost_to c.args.after db) (packages_cost db) c.args.disk.now first.new.disk
     c.print_above.new.disk (omega arith) first.ensures.looks c.in-Err.ensures.looks

@@ -1,12 +1,12 @@
-use Rattle.rpm_query.proofs.Vocabulary.{argument_reach, Files, inner, is_indexed, IsOfChain, lent, packages_in, question_of, text_at}
+use Rattle.rpm_query.proofs.Vocabulary.{argument_reach, Files, inner, is_indexed, IsOfChain, lent, packages_in, question_of, word_at}
 use Rattle.std.proofs.Common.{map, sym, ap, ◌∙◌, subst, Err, arith}
-use Rattle.rpm_effects.specs.inner.Joins.{hand_then}
-use Rattle.rpm_effects.specs.inner.Halts.{of_out, of_err}
-use Rattle.rpm_print.specs.inner.Peeking.{peeks_none, peeks_then}
+use Rattle.rpm_effects.specs.laws.Joins.{hand_then}
+use Rattle.rpm_effects.specs.laws.Halts.{of_out, of_err}
+use Rattle.rpm_print.specs.laws.Peeking.{peeks_none, peeks_then}
 use Rattle.rpm_query.proofs.Nexts.{held_still, recalled_here}
-use Rattle.rpm_query.specs.inner.Sums.{before_some, get_map}
+use Rattle.rpm_query.specs.laws.Sums.{before_some, get_map}
 use Rattle.rpm_query.proofs.Turns.{few_more, turned_none, turned_more, turned_stop, part_here, reads_here, read_more, read_sum, read_by}
-use Rattle.rpm_query.specs.inner.Unbroken.{chains_of}
+use Rattle.rpm_query.specs.laws.Unbroken.{chains_of}
 use Rattle.rpm_query.proofs.querying.query_each.Goals as goal
 
 pub loop-k-init : goal.loop-k-init
@@ -76,7 +76,7 @@ returns-in-Err-clause-reads g c = λ told rows.
 
 pub returns-in-Err-clause-bad_index : goal.returns-in-Err-clause-bad_index
 returns-in-Err-clause-bad_index g c = λ told.
-    let f = text_at c.args.words.now in
+    let f = word_at c.args.words.now in
     let args = c.args.ask.now.arguments in
     let word = c.argument.result in
     let chosen = c.args.ask.now.chosen in
@@ -90,9 +90,9 @@ returns-in-Err-clause-bad_index g c = λ told.
 pub returns-then-failed-eq0-clause-reads : goal.returns-then-failed-eq0-clause-reads
 returns-then-failed-eq0-clause-reads g c = λ told rows.
     let over = argument_reach (is_indexed c.args.db.now) (packages_in g.D.Disk c.args.disk.now c.args.db.now) c.args.ask.now.chosen in
-    omega (arith, c.loop-k.invariant.reads told rows, before_some (map over (map (text_at c.args.words.now) c.args.ask.now.arguments)) c.args.db.now c.loop-k.k)
+    omega (arith, c.loop-k.invariant.reads told rows, before_some (map over (map (word_at c.args.words.now) c.args.ask.now.arguments)) c.args.db.now c.loop-k.k)
 
 pub returns-clause-reads : goal.returns-clause-reads
 returns-clause-reads g c = λ told rows.
     let over = argument_reach (is_indexed c.args.db.now) (packages_in g.D.Disk c.args.disk.now c.args.db.now) c.args.ask.now.chosen in
-    omega (arith, c.loop-k.invariant.reads told rows, before_some (map over (map (text_at c.args.words.now) c.args.ask.now.arguments)) c.args.db.now c.loop-k.k)
+    omega (arith, c.loop-k.invariant.reads told rows, before_some (map over (map (word_at c.args.words.now) c.args.ask.now.arguments)) c.args.db.now c.loop-k.k)

@@ -2,10 +2,10 @@ use Rattle.std.proofs.Common.{◌≡◌, ◌==◌, ◌||◌, ℕ, ◌++◌, Bool
 use Rattle.std.proofs.lemmas.Bool.Decides.{nat_tests}
 use Rattle.std.proofs.lemmas.List.{drop_all}
 use Rattle.std.proofs.lemmas.Result.{err_from_is_err_and}
-use Rattle.rpm_report.proofs.Vocabulary.{Conflict, conflict_step, is_some_of, label_told, report_steps, Step, told_steps, unread_step, whole}
-use Rattle.rpm_effects.specs.inner.Parts.{drop_get}
+use Rattle.rpm_report.proofs.Vocabulary.{Conflict, conflict_step, is_some_of, label_told, report_steps, Step, told_steps, unread_step, whole_step}
+use Rattle.rpm_effects.specs.laws.Parts.{drop_get}
 use Rattle.rpm_report.proofs.Lines.{Written, written_none, written_out, written_err, written_stop, written_all}
-use Rattle.rpm_effects.specs.inner.Stopping.{reached_first}
+use Rattle.rpm_effects.specs.laws.Stopping.{reached_first}
 use Rattle.rpm_report.proofs.Telling.{rest_at}
 use Rattle.rpm_report.proofs.file_report.tell_report.Goals as goal
 
@@ -21,7 +21,7 @@ loop-number-preserved g c =
     let k = c.loop-number.number-index in
     written_err g.O.Sink g.E.Sink
     (ap (λ (numbers : List ℕ). map unread_step numbers ++ map (conflict_step (label_told r)) r.conflicts) (rest_at c.bad-bad.result.now k 0 (omega arith)))
-    c.loop-number.invariant g.met.E.Sink.follows_trans c.in_ok-put_bad.ensures.puts.err (c.in_ok-put_bad.ensures.step (whole 0) _ _).1
+    c.loop-number.invariant g.met.E.Sink.follows_trans c.in_ok-put_bad.ensures.puts.err (c.in_ok-put_bad.ensures.step (whole_step 0) _ _).1
 
 pub loop-i-init : goal.loop-i-init
 loop-i-init g c =
@@ -46,7 +46,7 @@ returns-in_err-put_bad-clause-part g c =
     rw (p.1, p.2) (written_stop g.O.Sink g.E.Sink
     (ap (λ (numbers : List ℕ). map unread_step numbers ++ map (conflict_step (label_told r)) r.conflicts) (rest_at c.bad-bad.result.now k 0 (omega arith)))
     c.loop-number.invariant c.args.out.now c.put_bad.new.err (reached_first Bool (unread_step (get_or c.bad-bad.result.now k 0)) []
-    c.in_err-put_bad.field-0.0 _ _ (λ for. for ≡ whole 0) refl (c.in_err-put_bad.ensures.step (whole 0) _ _)))
+    c.in_err-put_bad.field-0.0 _ _ (λ for. for ≡ whole_step 0) refl (c.in_err-put_bad.ensures.step (whole_step 0) _ _)))
 
 pub returns-in_err-put_conflict-clause-part : goal.returns-in_err-put_conflict-clause-part
 returns-in_err-put_conflict-clause-part g c =

@@ -1,14 +1,14 @@
-use Rattle.rpm_report.proofs.Vocabulary.{Anywhere, class_steps, classes_part, Files, flat_map, graph_of, inner, IsOrder, Network, packages, packages_in, room}
-use Rattle.rpm_select.specs.Frame.{HasRows}
+use Rattle.rpm_report.proofs.Vocabulary.{Anywhere, class_steps, classes_part, Files, flat_map, graph_of, inner, IsOrder, Network, packages, packages_in, store_of}
+use Rattle.rpm_select.specs.Frame.{HasKeptRows}
 use Rattle.std.proofs.Common.{◌≡◌, true, false, Bool, [], refl, ap, ◌∙◌, subst}
 use Rattle.std.specs.Prelude.{IsTrue}
 use Rattle.std.proofs.lemmas.Result.{err_from_is_err_and}
-use Rattle.rpm_print.specs.inner.Askable.{asked_still}
+use Rattle.rpm_print.specs.laws.Askable.{asked_still}
 use Rattle.rpm_report.proofs.Behind.{behind_first, behind_stop, behind_sound, question_broken, question_read}
-use Rattle.rpm_report.specs.inner.Checked.{part_unbroken, reached_unbroken}
-use Rattle.rpm_report.specs.inner.Reporting.{none_listed, order_listed}
-use Rattle.rpm_print.specs.inner.Reached.{rows_at}
-use Rattle.rpm_effects.specs.inner.Reaching.{not_begun, through_none}
+use Rattle.rpm_report.specs.laws.Checked.{part_unbroken, reached_unbroken}
+use Rattle.rpm_report.specs.laws.Reporting.{none_listed, order_listed}
+use Rattle.rpm_print.specs.laws.Reached.{rows_at}
+use Rattle.rpm_effects.specs.laws.Reaching.{not_begun, through_none}
 use Rattle.rpm_report.proofs.SoFar.{glances, peeks_more}
 use Rattle.rpm_report.proofs.ordering.report_order.Given.{Over}
 use Rattle.rpm_report.proofs.ordering.report_order.Goals.{After-put_classes}
@@ -19,12 +19,12 @@ module _ (g : Over) (c : After-put_classes g) (told : IsTrue g.D.Disk.tells) whe
   same = (c.in-Ok.ensures.asks.looks.untouched told).same ∙ (c.in_ok-bad.ensures.tells.looks.untouched told).same
 
   -- the classes are those of the packages at the start, in their order
-  listed : HasRows g.D.Disk c.args.disk.now c.args.db.now → IsOrder (graph_of (packages_in g.D.Disk c.args.disk.now c.args.db.now)) c.in_ok-list.list
+  listed : HasKeptRows g.D.Disk c.args.disk.now c.args.db.now → IsOrder (graph_of (packages_in g.D.Disk c.args.disk.now c.args.db.now)) c.in_ok-list.list
   listed rows =
       let first = (c.in_ok-bad.ensures.tells.looks.untouched told).same in
       subst (λ (n : Network). IsOrder n c.in_ok-list.list)
       (c.in-Ok.ensures.told told (rows_at c.args.db.now (g.D.Disk.files c.tell_each_bad.new.disk) (g.D.Disk.files c.args.disk.now) first rows)
-      ∙ ap (λ (f : Files). graph_of (packages f.pkg (room c.args.db.now))) first) c.in_ok-list.ensures.order
+      ∙ ap (λ (f : Files). graph_of (packages f.pkg (store_of c.args.db.now))) first) c.in_ok-list.ensures.order
 
 pub read_graph-requires : goal.read_graph-requires
 read_graph-requires g c = record { asked = asked_still g.D.Disk _ _ _ c.in_ok-bad.ensures.tells.looks.untouched c.requires.asked }
@@ -90,7 +90,7 @@ returns-in_err-put_classes-clause-went g c = λ told rows.
       list,
       order_listed (graph_of all) false list (listed g then told rows),
       behind_stop (classes_part all list) (c.in_ok-bad.ensures.went told _ _) (Unit {0})
-          (ap (λ (f : Files). flat_map (class_steps (packages f.pkg (room c.args.db.now))) list) (same g then told))
+          (ap (λ (f : Files). flat_map (class_steps (packages f.pkg (store_of c.args.db.now))) list) (same g then told))
           (c.in_err-put_classes.ensures.went told g.E.Sink.tells (g.E.Sink.taken (inner c.tell_each_bad.new.err))),
     )
 

@@ -1,8 +1,8 @@
-use Rattle.rpm_report.proofs.Vocabulary.{Anywhere, packages, room}
+use Rattle.rpm_report.proofs.Vocabulary.{Anywhere, packages, store_of}
 use Rattle.std.proofs.lemmas.Result.{err_from_is_err_and}
-use Rattle.rpm_print.specs.inner.Askable.{asked_still}
+use Rattle.rpm_print.specs.laws.Askable.{asked_still}
 use Rattle.rpm_report.proofs.SoFar.{so_far_none, so_far_more, so_far_stops, so_far_ends}
-use Rattle.rpm_print.specs.inner.Verified.{next_entry, no_entry, from_one, told_none, told_more, told_stop, told_end}
+use Rattle.rpm_print.specs.laws.Verified.{next_entry, no_entry, from_one, told_none, told_more, told_stop, told_end}
 use Rattle.rpm_report.proofs.unreadable.tell_each_bad.Goals as goal
 
 pub tell_bad-requires : goal.tell_bad-requires
@@ -16,7 +16,7 @@ loop-next-init g c = record {
 
 pub loop-next-preserved : goal.loop-next-preserved
 loop-next-preserved g c =
-    let s = (room c.args.db.now) in
+    let s = (store_of c.args.db.now) in
     let m = c.in-Some.next in
     let inv = c.loop-next.invariant in
     let start = g.D.Disk.files c.args.disk.now in
@@ -33,7 +33,7 @@ returns-in_err-bad g c =
     let m = c.in-Some.next in
     let inv = c.loop-next.invariant in
     let start = g.D.Disk.files c.args.disk.now in
-    let next = next_entry (packages start.pkg (room db)) c.loop-next.number m (c.in-Some.ensures.told start.pkg) in
+    let next = next_entry (packages start.pkg (store_of db)) c.loop-next.number m (c.in-Some.ensures.told start.pkg) in
     let p = err_from_is_err_and c.from_residual.result c.from_residual.ensures.1 in
     rw (p.1, p.2) (record {
       went = λ told ot o. told_stop next.2 (inv.told told ot o) {P = Anywhere} Anywhere (λ b any. any) (from_one start.pkg db (c.requires.asked.keeps told))

@@ -1,15 +1,15 @@
-use Rattle.rpm_report.proofs.Vocabulary.{bad_part, entries, inner, packages, room}
+use Rattle.rpm_report.proofs.Vocabulary.{bad_part, entries, inner, packages, store_of}
 use Rattle.std.proofs.Common.{ℕ, ◌-◌, ◌^◌, Bool, List}
 use Rattle.std.specs.Prelude.{IsTrue}
 use Rattle.rpm_report.proofs.SoFar.{SoFar}
-use Rattle.rpm_print.specs.inner.Verified.{Told}
+use Rattle.rpm_print.specs.laws.Verified.{ReportSoFar}
 use Rattle.rpm_report.proofs.unreadable.tell_each_bad.Given as goal
 
 abbrev pub invariant-loop-next : goal.invariant-loop-next
 invariant-loop-next g l = record {
   far : SoFar g.D.Disk g.E.Sink l.initial.disk l.disk l.initial.err l.err;
   told : IsTrue g.D.Disk.tells → (ot : Bool) (o : List ℕ)
-      → Told ot g.E.Sink.tells bad_part (entries (packages (g.D.Disk.files l.initial.disk).pkg (room l.db))) l.number l.fails
+      → ReportSoFar ot g.E.Sink.tells bad_part (entries (packages (g.D.Disk.files l.initial.disk).pkg (store_of l.db))) l.number l.fails
       o (g.E.Sink.taken (inner l.initial.err)) o (g.E.Sink.taken (inner l.err));
 }
 

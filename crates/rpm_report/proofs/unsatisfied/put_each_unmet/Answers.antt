@@ -1,10 +1,10 @@
-use Rattle.rpm_report.proofs.Vocabulary.{Files, packages, room, unmet_step}
+use Rattle.rpm_report.proofs.Vocabulary.{Files, packages, store_of, unmet_step}
 use Rattle.std.proofs.Common.{◌≡◌, ◌<◌, ◌++◌, map, refl, sym, ap, ◌∙◌, arith}
 use Rattle.std.proofs.lemmas.Result.{err_from_is_err_and}
 use Rattle.std.proofs.lemmas.List.{map-append}
 use Rattle.rpm_report.proofs.Going.{going_none, going_more, going_stop, going_end}
 use Rattle.rpm_report.proofs.Rowed.{front_none, front_own, front_some}
-use Rattle.rpm_print.specs.inner.Askable.{asked_still}
+use Rattle.rpm_print.specs.laws.Askable.{asked_still}
 use Rattle.rpm_report.proofs.unsatisfied.put_each_unmet.Given.{Over}
 use Rattle.rpm_report.proofs.unsatisfied.put_each_unmet.Goals.{After-put_row, After-row_len}
 use Rattle.rpm_report.proofs.unsatisfied.put_each_unmet.Goals as goal
@@ -30,25 +30,25 @@ loop-first-smaller g c = omega (arith, c.split_at.ensures.back_len, some_in g (g
 pub loop-first-init : goal.loop-first-init
 loop-first-init g c =
     going_none g.D.Disk g.O.Sink g.met.D.Disk.follows_refl g.met.O.Sink.follows_refl
-    (λ (f : Files). map (unmet_step (packages f.pkg (room c.args.db.now))) c.args.list.now) c.args.disk.now c.args.out.now
+    (λ (f : Files). map (unmet_step (packages f.pkg (store_of c.args.db.now))) c.args.list.now) c.args.disk.now c.args.out.now
 
 -- the row at the front, and the rest
-rows_are : (g : Over) (c : After-put_row g) (f : Files) → let step = unmet_step (packages f.pkg (room c.args.db.now)) in
+rows_are : (g : Over) (c : After-put_row g) (f : Files) → let step = unmet_step (packages f.pkg (store_of c.args.db.now)) in
     map step c.loop-first.left.now ≡ map step c.split_at.result.0.now ++ map step c.split_at.result.1.now
 rows_are g c f =
-    let step = unmet_step (packages f.pkg (room c.args.db.now)) in
+    let step = unmet_step (packages f.pkg (store_of c.args.db.now)) in
     ap (map step) c.split_at.ensures.by_index.0 ∙ map-append step c.split_at.result.0.now c.split_at.result.1.now
 
 pub loop-first-preserved : goal.loop-first-preserved
 loop-first-preserved g c =
-    let step = λ (f : Files). unmet_step (packages f.pkg (room c.args.db.now)) in
+    let step = λ (f : Files). unmet_step (packages f.pkg (store_of c.args.db.now)) in
     going_more g.D.Disk g.O.Sink g.met.D.Disk.follows_trans g.met.O.Sink.follows_trans (λ (f : Files). map (step f) c.split_at.result.0.now)
     (λ (f : Files). map (step f) c.split_at.result.1.now) (rows_are g (goal.at.loop-first-preserved g c).After-put_row) c.loop-first.invariant
     c.in_ok-put_row.ensures.tells c.in_ok-put_row.ensures.went
 
 pub returns-in_err-put_row : goal.returns-in_err-put_row
 returns-in_err-put_row g c =
-    let step = λ (f : Files). unmet_step (packages f.pkg (room c.args.db.now)) in
+    let step = λ (f : Files). unmet_step (packages f.pkg (store_of c.args.db.now)) in
     let s = going_stop g.D.Disk g.O.Sink g.met.D.Disk.follows_trans g.met.O.Sink.follows_trans (λ (f : Files). map (step f) c.split_at.result.0.now)
     (λ (f : Files). map (step f) c.split_at.result.1.now) (rows_are g (goal.at.returns-in_err-put_row g c).After-put_row) c.loop-first.invariant
     (Unit {0}) c.in_err-put_row.ensures.tells c.in_err-put_row.ensures.went in
@@ -57,6 +57,6 @@ returns-in_err-put_row g c =
 
 pub returns : goal.returns
 returns g c =
-    let s = going_end g.D.Disk g.O.Sink (λ (f : Files). ap (map (unmet_step (packages f.pkg (room c.args.db.now))))
+    let s = going_end g.D.Disk g.O.Sink (λ (f : Files). ap (map (unmet_step (packages f.pkg (store_of c.args.db.now))))
     (front_none c.loop-first.left.now (sym c.in_default.ensures.value))) c.loop-first.invariant {T = Unit {0}} {t = tt} in
     record { went = s.0; tells = s.1 }

@@ -1,13 +1,13 @@
-use Rattle.rpm_report.proofs.Vocabulary.{Anywhere, Files, inner, is_some_of, packages, packages_in, room, unmet, unmet_part, unmet_step}
-use Rattle.rpm_select.specs.Frame.{HasRows}
+use Rattle.rpm_report.proofs.Vocabulary.{Anywhere, Files, inner, is_some_of, packages, packages_in, store_of, unmet, unmet_part, unmet_step}
+use Rattle.rpm_select.specs.Frame.{HasKeptRows}
 use Rattle.std.proofs.Common.{◌≡◌, ◌==◌, Bool, true, false, not, List, [], ◌∷◌, map, length, refl, sym, ap, ◌∙◌, arith}
 use Rattle.std.specs.Prelude.{IsTrue}
 use Rattle.std.proofs.lemmas.Bool.Decides.{nat_tests}
 use Rattle.std.proofs.lemmas.Result.{err_from_is_err_and}
-use Rattle.rpm_print.specs.inner.Askable.{asked_still}
+use Rattle.rpm_print.specs.laws.Askable.{asked_still}
 use Rattle.rpm_report.proofs.Behind.{behind_first, behind_stop, behind_told, question_broken, question_read}
-use Rattle.rpm_report.specs.inner.Checked.{part_unbroken, reached_unbroken}
-use Rattle.rpm_print.specs.inner.Reached.{rows_at}
+use Rattle.rpm_report.specs.laws.Checked.{part_unbroken, reached_unbroken}
+use Rattle.rpm_print.specs.laws.Reached.{rows_at}
 use Rattle.rpm_report.proofs.SoFar.{glances, peeks_more}
 use Rattle.rpm_report.proofs.unsatisfied.report_unmet.Given.{Over}
 use Rattle.rpm_report.proofs.unsatisfied.report_unmet.Goals.{After-put_each_unmet}
@@ -20,19 +20,19 @@ some_of (x ∷ xs) =
     rw test refl
 
 -- what was found is what no package meets of those at the start
-module _ (g : Over) (c : After-put_each_unmet g) (told : IsTrue g.D.Disk.tells) (rows : HasRows g.D.Disk c.args.disk.now c.args.db.now) where
+module _ (g : Over) (c : After-put_each_unmet g) (told : IsTrue g.D.Disk.tells) (rows : HasKeptRows g.D.Disk c.args.disk.now c.args.db.now) where
   first : g.D.Disk.files c.tell_each_bad.new.disk ≡ g.D.Disk.files c.args.disk.now
   first = (c.in_ok-bad.ensures.tells.looks.untouched told).same
 
   found : c.as_slice.result.now ≡ unmet (packages_in g.D.Disk c.args.disk.now c.args.db.now)
   found = c.as_slice.ensures
       ∙ c.in-Ok.ensures.told told (rows_at c.args.db.now (g.D.Disk.files c.tell_each_bad.new.disk) (g.D.Disk.files c.args.disk.now) first rows)
-      ∙ ap (λ (f : Files). unmet (packages f.pkg (room c.args.db.now))) first
+      ∙ ap (λ (f : Files). unmet (packages f.pkg (store_of c.args.db.now))) first
 
   -- and so are their lines
   lines : map (unmet_step (packages_in g.D.Disk c.unmet.new.disk c.args.db.now)) c.as_slice.result.now
       ≡ (unmet_part (packages_in g.D.Disk c.args.disk.now c.args.db.now)).steps
-  lines = ap (λ (f : Files). map (unmet_step (packages f.pkg (room c.args.db.now))) c.as_slice.result.now)
+  lines = ap (λ (f : Files). map (unmet_step (packages f.pkg (store_of c.args.db.now))) c.as_slice.result.now)
       ((c.in-Ok.ensures.asks.looks.untouched told).same ∙ first)
       ∙ ap (map (unmet_step (packages_in g.D.Disk c.args.disk.now c.args.db.now))) found
 

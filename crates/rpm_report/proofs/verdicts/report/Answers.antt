@@ -1,10 +1,10 @@
 use Rattle.rpm_report.proofs.Vocabulary.{Anywhere, bearer, Bearer, cost_more, cost_some, Everything, inner, looks_more, looks_none, looks_then, packages, Pkg}
-use Rattle.rpm_report.proofs.Vocabulary.{pkg_read, reached_by, room}
+use Rattle.rpm_report.proofs.Vocabulary.{pkg_read, reached_by, store_of}
 use Rattle.std.proofs.Common.{◌≡◌, ◌+◌, ◌≤◌, [], ◌∷◌, Err, sym, ap, ◌∙◌, subst, arith}
-use Rattle.rpm_report.specs.inner.Reporting.{went_report}
-use Rattle.rpm_print.specs.inner.Askable.{asked_still}
-use Rattle.rpm_effects.specs.inner.Halts.{of_err}
-use Rattle.rpm_print.specs.inner.Verified.{next_entry, no_entry, from_one, told_none, told_more, told_stop, told_end, went_failing, went_sound}
+use Rattle.rpm_report.specs.laws.Reporting.{went_report}
+use Rattle.rpm_print.specs.laws.Askable.{asked_still}
+use Rattle.rpm_effects.specs.laws.Halts.{of_err}
+use Rattle.rpm_print.specs.laws.Verified.{next_entry, no_entry, from_one, told_none, told_more, told_stop, told_end, went_failing, went_sound}
 use Rattle.rpm_report.proofs.verdicts.report.Goals as goal
 
 pub verify_one-requires-clause-asked : goal.verify_one-requires-clause-asked
@@ -27,7 +27,7 @@ loop-next-preserved g c =
     let inv = c.loop-next.invariant in
     let done = c.in-Ok.ensures in
     let start = g.D.Disk.files c.args.disk.now in
-    let next = next_entry (packages start.pkg (room db)) k m (c.in-Some.ensures.told start.pkg) in
+    let next = next_entry (packages start.pkg (store_of db)) k m (c.in-Some.ensures.told start.pkg) in
     record {
       looks = looks_then _ Pkg g.met.D.Disk.follows_trans _ _ _ _ _ _ (omega (arith, cost_more db k m c.in-Some.ensures.next.0)) inv.looks done.looks;
       disk = omega (arith, inv.disk, done.disk.later);
@@ -44,7 +44,7 @@ returns-in-Err-clause-went g c = λ told et e.
     let m = c.in-Some.next in
     let inv = c.loop-next.invariant in
     let start = g.D.Disk.files c.args.disk.now in
-    let next = next_entry (packages start.pkg (room db)) k m (c.in-Some.ensures.told start.pkg) in
+    let next = next_entry (packages start.pkg (store_of db)) k m (c.in-Some.ensures.told start.pkg) in
     let reads : Bearer → Type 0 = λ for. pkg_read g.D.Disk c.verify_one.new.disk ≤ pkg_read g.D.Disk c.args.disk.now
     + reached_by (Everything ∷ []) db for in
     let few : reads (bearer 0 m) = omega (arith, inv.looks.reads.pkg, c.in-Err.ensures.looks.reads.pkg, cost_more db k m c.in-Some.ensures.next.0) in

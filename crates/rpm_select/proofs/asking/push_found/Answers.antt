@@ -1,4 +1,4 @@
-use Rattle.rpm_select.proofs.Vocabulary.{AreHits, code_of, key_chain, Kind, packages, room, rows}
+use Rattle.rpm_select.proofs.Vocabulary.{AreHits, code_of, key_chain, Kind, packages, store_of, rows}
 use Rattle.std.proofs.Common.{◌≡◌, List, ℕ, Ok, Err, Result, inl, subst}
 use Rattle.std.specs.Prelude.{OnOk}
 use Rattle.rpm_select.proofs.Numbering.{hits_add}
@@ -11,7 +11,7 @@ on_ok (Err e) P Q f p = tt
 pub returns-in-Ok-clause-adds : goal.returns-in-Ok-clause-adds
 returns-in-Ok-clause-adds g c =
     let key = c.args.key.now in
-    let all = rows (packages (g.D.Disk.files c.args.disk.now).pkg (room c.args.db.now)) in
+    let all = rows (packages (g.D.Disk.files c.args.disk.now).pkg (store_of c.args.db.now)) in
     let hits = c.in-Ok.hits in
     on_ok c.push_hits.result _ _ (λ is told has.
     hits_add key.0 key.1 all hits c.args.numbers.now.items c.push_hits.new.numbers.items is

@@ -1,10 +1,10 @@
 use Rattle.std.proofs.Common.{◌∙◌, ap, map, refl, rules}
-use Rattle.rpm_tool.proofs.Vocabulary.{Answers, closing, inner, outs, ran, text_at}
+use Rattle.rpm_tool.proofs.Vocabulary.{Answers, closing, inner, outs, ran, word_at}
 use Rattle.rpm_tool.proofs.Arguments.{questions}
 use Rattle.rpm_tool.proofs.Closed.{ended, handed, counted_fault}
 use Rattle.rpm_tool.proofs.Faults.{le_self}
 use Rattle.rpm_tool.proofs.Numbered.{argument_numbers, picked_rises, query_above, whole_numbers, all_rise}
-use Rattle.rpm_print.specs.inner.Printing.{inner_same}
+use Rattle.rpm_print.specs.laws.Printing.{inner_same}
 use Rattle.rpm_tool.proofs.command.run.Goals as goal
 
 pub returns-clause-unread : goal.returns-clause-unread
@@ -42,7 +42,7 @@ returns-clause-causes g c =
 
 pub returns-clause-laws : goal.returns-clause-laws
 returns-clause-laws g c = record {
-  after = λ tree packages a. query_above tree a.after packages a.chosen (map (text_at c.args.words.now) a.arguments);
+  after = λ tree packages a. query_above tree a.after packages a.chosen (map (word_at c.args.words.now) a.arguments);
   files_after = λ tree paths n a. refl;
   numbers = λ tree packages chosen after j text. (argument_numbers tree packages chosen after j text, picked_rises packages chosen text after);
   all_numbers = λ tree packages chosen after. (whole_numbers tree packages chosen after, all_rise packages after);

@@ -1,10 +1,10 @@
 use Rattle.std.proofs.Common.{◌≡◌, ◌+◌, ◌≤◌, true, refl, sym, ap, ◌∙◌, subst, arith}
-use Rattle.rpm_tool.proofs.Vocabulary.{deed_of, PlainProgress, Files, Idx, inner, is_of_streams, laid_files, log_state, StoreAnswer, Pkg, pkg_read, query_cost, read_to}
-use Rattle.rpm_tool.proofs.Vocabulary.{reopened, shown, store, Units, unless_starved, Why}
+use Rattle.rpm_tool.proofs.Vocabulary.{request_of, PlainProgress, Files, Idx, inner, is_of_streams, laid_files, log_state, StoreAnswer, Pkg, pkg_read, query_cost, read_to}
+use Rattle.rpm_tool.proofs.Vocabulary.{reopened, shown_outputs, store, Units, unless_starved, Why}
 use Rattle.rpm_effects.specs.declared.answer.Why.TheVariants as why
-use Rattle.rpm_commit.specs.inner.Starved.{starved_streams}
-use Rattle.rpm_tool.proofs.Deeds.{does_reads, does_starved}
-use Rattle.rpm_effects.specs.inner.Reaching.{through_none}
+use Rattle.rpm_commit.specs.laws.Starved.{starved_streams}
+use Rattle.rpm_tool.proofs.Requests.{does_reads, does_starved}
+use Rattle.rpm_effects.specs.laws.Reaching.{through_none}
 use Rattle.rpm_tool.proofs.Faults.{hands_none, le_more, le_none}
 use Rattle.rpm_tool.proofs.Loading.{opened_as, loaded_sound, below_reads}
 use Rattle.rpm_tool.proofs.Unloaded.{load_fault, load_own, load_streams, unloaded}
@@ -16,15 +16,15 @@ returns-in-Ok-clause-went g c = λ told.
     let tree = c.args.format.now in
     let words = c.args.words.now in
     let a = c.args.ask.now in
-    let asked = deed_of a.mode in
+    let asked = request_of a.mode in
     let files = g.D.Disk.files c.args.disk in
     let file = (reopened files).pkg in
     let ov = c.in-Ok.overlay in
     let end = c.answer_unindexed-ended.new.disk in
     let ended = c.answer_unindexed-ended.result in
     let given = unless_starved c.is_starved.result ended in
-    let old = shown g.O.Sink g.E.Sink c.args.out.now c.args.err.now in
-    let new = shown g.O.Sink g.E.Sink c.answer_unindexed-ended.new.out c.answer_unindexed-ended.new.err in
+    let old = shown_outputs g.O.Sink g.E.Sink c.args.out.now c.args.err.now in
+    let new = shown_outputs g.O.Sink g.E.Sink c.answer_unindexed-ended.new.out c.answer_unindexed-ended.new.err in
     let start = pkg_read g.D.Disk c.args.disk in
     let below = pkg_read g.D.Disk ov.below in
     let now = pkg_read g.D.Disk end.below in
@@ -34,7 +34,8 @@ returns-in-Ok-clause-went g c = λ told.
     let keeps = c.answer_unindexed-ended.ensures.looks.1.goes_on in
     let opened : StoreAnswer (PlainProgress tree words a file over over') (store file) ended old new =
     subst (λ (u : Units). StoreAnswer (PlainProgress tree words a u over over') (store u) ended old new) pkg (c.answer_unindexed-ended.ensures.went told) in
-    rw (c.release.ensures, c.unless_starved-why.ensures) (loaded_sound (PlainProgress tree words a file start now) (store file) (log_state files.log) given old new
+    rw (c.release.ensures, c.unless_starved-why.ensures) (loaded_sound (PlainProgress tree words a file start now) (store file)
+    (log_state files.log) given old new
     (c.in-Ok.ensures.says told)
     (opened_as (PlainProgress tree words a file over over') (PlainProgress tree words a file start now) (store file) ended given old new
     (λ s does. does_starved tree file s words a (λ for. now ≤ start + read_to file words a s for) old new asked c.is_starved.result ended
@@ -115,7 +116,7 @@ pub returns-in-Err-clause-went : goal.returns-in-Err-clause-went
 returns-in-Err-clause-went g c = λ told.
     let files = g.D.Disk.files c.args.disk in
     let refused = c.in-Err.refused in
-    let x = shown g.O.Sink g.E.Sink c.args.out.now c.args.err.now in
+    let x = shown_outputs g.O.Sink g.E.Sink c.args.out.now c.args.err.now in
     rw c.why_of_load.ensures (unloaded c.args.format.now c.args.words.now c.args.ask.now (reopened files).pkg (pkg_read g.D.Disk c.args.disk)
     (pkg_read g.D.Disk refused.disk) x (through_none {ot = g.O.Sink.tells} {et = g.E.Sink.tells} (g.O.Sink.taken (inner c.args.out.now))
     (g.E.Sink.taken (inner c.args.err.now))) (log_state files.log) refused.why (c.in-Err.ensures.says told))

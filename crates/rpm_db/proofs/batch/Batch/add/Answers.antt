@@ -1,5 +1,5 @@
 use Rattle.std.proofs.Common.{rules, ◌≡◌, ℕ, Result, Ok, Err, refl, sym, ◌∙◌, subst}
-use Rattle.rpm_db.proofs.Vocabulary.{Add, AddIs, ChangeFault, Gathers, Header, header, header-own, resumed}
+use Rattle.rpm_db.proofs.Vocabulary.{Add, AddAnswer, ChangeFault, Gathers, Header, header, header-own, resumed_database}
 use Rattle.rpm_db.proofs.Refused.{add_same}
 use Rattle.rpm_db.proofs.Results.{if_err, on_err}
 use Rattle.rpm_db.proofs.batch.Batch.add.Goals as goal
@@ -17,14 +17,14 @@ returns-clause-gathers g c = λ h is.
 pub returns-clause-causes : goal.returns-clause-causes
 returns-clause-causes g c =
     let first : header c.args.blob.now ≡ Ok c.in_ok-view.view = sym c.in_ok-view.ensures.value in
-    add_same (resumed c.args.db.now) _ c.args.blob.now (header-own c.args.blob.now c.in_ok-view.view first ∙ sym first) c.add_view.result
+    add_same (resumed_database c.args.db.now) _ c.args.blob.now (header-own c.args.blob.now c.in_ok-view.view first ∙ sym first) c.add_view.result
     c.add_view.ensures.causes
 
 pub returns-clause-refused : goal.returns-clause-refused
 returns-clause-refused g c = λ fault is.
     let v = c.in_ok-view.view in
     let own : header v.blob ≡ Ok v = header-own c.args.blob.now v (sym c.in_ok-view.ensures.value) in
-    let bad = subst (λ (r : Result ℕ ChangeFault). AddIs (resumed c.args.db.now) v.blob r) is c.add_view.ensures.causes in
+    let bad = subst (λ (r : Result ℕ ChangeFault). AddAnswer (resumed_database c.args.db.now) v.blob r) is c.add_view.ensures.causes in
     absurd (let none : header v.blob ≡ Err fault = bad.1 in cc)
 
 pub returns-in_err-view-clause-left : goal.returns-in_err-view-clause-left

@@ -1,5 +1,5 @@
 use Rattle.std.proofs.Common.{◌≡◌, [], List, true, false, refl, sym, ap, ◌∙◌, subst, arith}
-use Rattle.rpm_db.proofs.Vocabulary.{ChangeFault, Database, database_of, EraseIs, IsRefusal, resumed, Row, Runs, SameFiles, Store}
+use Rattle.rpm_db.proofs.Vocabulary.{ChangeFault, Database, database_of, EraseAnswer, IsRefusal, resumed_database, Row, Runs, SameFiles, Store}
 use Rattle.rpm_db.proofs.Batched.{gathers_erase}
 use Rattle.rpm_db.proofs.Refused.{erase_full, erase_is, erasing_of, never_of_index, not_reading}
 use Rattle.rpm_db.proofs.Results.{map_if_err, map_ok, on_err}
@@ -14,7 +14,7 @@ erase_aside-requires-clause-ready g c =
       made = c.db.invariant.made was.indexed;
       keeps = λ told. (was.serving told).keeps;
       quiet = λ told. (was.serving told).quiet;
-      settled = λ told. (was.serving told).settled;
+      durable = λ told. (was.serving told).durable;
     }
 
 pub erase_aside-requires-clause-held : goal.erase_aside-requires-clause-held
@@ -35,11 +35,11 @@ returns-clause-gathers g c =
     c.db.inside.is_stopped owed (record { drops = c.erase_aside.new.drops; adds = owed.adds }) was e.index c.erase_aside.result c.args.n
     (room_alone c.args.n st c.erase_aside.new.store c.erase_aside.result e.edit e.kinds) e.done e.sums
     (map_ok c.erase_aside.result (λ rows told. ap (λ (rs : List Row). record { drops = rs; adds = owed.adds }) (rows told)) e.gathered)
-    (λ needed fits. erase_full needed c.erase_aside.result e.kinds fits) e.stops)
+    (λ needed fits. erase_full needed c.erase_aside.result e.kinds fits) e.crashes)
 
 pub returns-clause-causes : goal.returns-clause-causes
 returns-clause-causes g c =
-    subst (λ (d : Database). EraseIs {A = Unit {0}} (resumed d) c.args.n c.erase_aside.result) c.db.view_is
+    subst (λ (d : Database). EraseAnswer {A = Unit {0}} (resumed_database d) c.args.n c.erase_aside.result) c.db.view_is
     (erase_is (database_of c.db.inside.store c.db.inside.index false) c.args.n c.erase_aside.result refl (sym c.holds.ensures ∙ c.if-not-holds.false)
     (λ is. omega (arith, is)) c.erase_aside.ensures.kinds)
 

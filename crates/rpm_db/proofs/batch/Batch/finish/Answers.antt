@@ -2,7 +2,7 @@ use Rattle.std.proofs.Common.{◌≡◌, ◌≤◌, ◌+◌, ◌==◌, ℕ, if�
 use Rattle.rpm_db.proofs.Vocabulary.{AreOfRows, HasRows, IsOrdered, KeepsUnits, live_of, packages, rows, sealed_in, store, Units, units_for}
 use Rattle.rpm_hindex.specs.State as hindex
 use Rattle.rpm_db.proofs.Refused.{reading_of}
-use Rattle.rpm_db.proofs.FillStops.{rows_quiet}
+use Rattle.rpm_db.proofs.FillCrashes.{rows_quiet}
 use Rattle.rpm_db.proofs.Served.{indexed_as, refused_same}
 use Rattle.rpm_db.proofs.batch.Batch.finish.Goals as goal
 
@@ -14,12 +14,12 @@ fill_index-requires g c =
         order = subst IsOrdered c.in-Some.is was.ordered;
         clear = λ is. was.clear (ap sealed_in c.in-Some.is ∙ is ∙ c.generation-generation.ensures.value);
         keeps = λ told. subst (KeepsUnits (g.D.Disk.files c.args.disk.now).idx) c.in-Some.is (was.serving told).index;
-        settled = λ told. (was.serving told).settled;
+        durable = λ told. (was.serving told).durable;
       };
     }
 
-pub returns-in-Ok-clause-settled : goal.returns-in-Ok-clause-settled
-returns-in-Ok-clause-settled g c =
+pub returns-in-Ok-clause-has_rows : goal.returns-in-Ok-clause-has_rows
+returns-in-Ok-clause-has_rows g c =
     let was = rw (sym c.db.view_is, sym c.self.view_is) at c.requires.gathering in
     let e = c.in-Ok.ensures in
     let st = c.db.inside.store in
@@ -33,7 +33,7 @@ returns-in-Ok-clause-settled g c =
         keeps = ap store (e.store told) ∙ (was.serving told).keeps;
         index = e.filled.kept told;
         quiet = e.filled.quiet told st (was.serving told).quiet;
-        settled = e.filled.settled told;
+        durable = e.filled.durable told;
       };
       index = λ told o.
           indexed_as new.pkg new.idx st c.fill_index.new.index false (e.filled.kept told) current
@@ -41,7 +41,7 @@ returns-in-Ok-clause-settled g c =
           (e.filled.rows_are told o.from (packages old.pkg st) o.has o.balances));
       grows = e.filled.grows;
       reach = λ told o.
-          subst (λ (i : Option hindex.State). length new.idx ≤ (if sealed_in i == st.generation then length old.idx
+          subst (λ (i : Option hindex.IndexState). length new.idx ≤ (if sealed_in i == st.generation then length old.idx
           else max (length old.idx + live_of owed.adds) (units_for (rows (packages old.pkg st))))) (sym c.in-Some.is)
           (subst (λ (n : ℕ). length new.idx ≤ (if hindex.sealed c.in-Some.index.first == n then length old.idx
           else max (length old.idx + live_of owed.adds) (units_for (rows (packages old.pkg st))))) c.generation-generation.ensures.value
@@ -64,25 +64,25 @@ returns-in-Err-clause-unwritten g c =
 
 -- ---- what crashes leave, and what is left
 
-pub returns-in-Ok-clause-stops : goal.returns-in-Ok-clause-stops
-returns-in-Ok-clause-stops g c =
+pub returns-in-Ok-clause-crashes : goal.returns-in-Ok-clause-crashes
+returns-in-Ok-clause-crashes g c =
     let was = rw (sym c.db.view_is, sym c.self.view_is) at c.requires.gathering in
     let a = c.args.disk.now in
     let old = g.D.Disk.files a in
     let images = g.D.Disk.left_since a (g.D.Disk.moment a) in
     let st = c.db.inside.store in
-    rw (sym c.db.view_is, sym c.self.view_is) (λ told lawful o. c.in-Ok.ensures.stops told lawful o.from (packages old.pkg st) o.has o.balances
+    rw (sym c.db.view_is, sym c.self.view_is) (λ told lawful o. c.in-Ok.ensures.crashes told lawful o.from (packages old.pkg st) o.has o.balances
     (subst (λ (n : ℕ). AreOfRows n (packages old.pkg st) images) (sym c.generation-generation.ensures.value)
     (rows_quiet st old images (was.serving told).keeps (c.db.invariant.made (ap is_some c.in-Some.is)) (was.serving told).quiet)))
 
-pub returns-in-Err-clause-stops : goal.returns-in-Err-clause-stops
-returns-in-Err-clause-stops g c =
+pub returns-in-Err-clause-crashes : goal.returns-in-Err-clause-crashes
+returns-in-Err-clause-crashes g c =
     let was = rw (sym c.db.view_is, sym c.self.view_is) at c.requires.gathering in
     let a = c.args.disk.now in
     let old = g.D.Disk.files a in
     let images = g.D.Disk.left_since a (g.D.Disk.moment a) in
     let st = c.db.inside.store in
-    rw (sym c.db.view_is, sym c.self.view_is) (λ told lawful o. c.in-Err.ensures.stops told lawful o.from (packages old.pkg st) o.has o.balances
+    rw (sym c.db.view_is, sym c.self.view_is) (λ told lawful o. c.in-Err.ensures.crashes told lawful o.from (packages old.pkg st) o.has o.balances
     (subst (λ (n : ℕ). AreOfRows n (packages old.pkg st) images) (sym c.generation-generation.ensures.value)
     (rows_quiet st old images (was.serving told).keeps (c.db.invariant.made (ap is_some c.in-Some.is)) (was.serving told).quiet)))
 

@@ -15,7 +15,7 @@ store_header-requires-clause-ready g c =
       made = c.db.invariant.made (ap is_some c.in-Some.is);
       keeps = λ told. (was.serving told).keeps;
       quiet = λ told. (was.serving told).quiet;
-      settled = λ told. (was.serving told).settled;
+      durable = λ told. (was.serving told).durable;
     }
 
 pub store_header-requires-clause-takes : goal.store_header-requires-clause-takes
@@ -47,7 +47,7 @@ returns-clause-gathers g c =
     let was = rw (sym c.db.view_is, sym c.self.view_is) at c.requires.gathering in
     rw (sym c.db.view_is, sym c.self.view_is) (gathers_put g.D.Disk c.args.disk.now c.store_header.new.disk c.db.inside.store c.store_header.new.store
     c.db.inside.index c.db.inside.is_stopped c.self.inside.owed c.store_header.new.owed was e.index c.store_header.result c.args.n c.args.view.now
-    c.requires.own e.room.placed e.done e.sums e.gathered (λ told. (e.takes told).full told) e.stops)
+    c.requires.own e.room.placed e.done e.sums e.gathered (λ told. (e.takes told).full told) e.crashes)
 
 pub returns-clause-whole : goal.returns-clause-whole
 returns-clause-whole g c = λ told whole. whole_err _ _ c.store_header.result whole ((c.store_header.ensures.takes told).bad told)

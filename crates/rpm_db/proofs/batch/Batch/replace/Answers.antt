@@ -1,5 +1,5 @@
 use Rattle.std.proofs.Common.{rules, ◌≡◌, inl, inr, Result, Ok, Err, refl, sym, ◌∙◌, subst}
-use Rattle.rpm_db.proofs.Vocabulary.{ChangeFault, Gathers, Header, header, header-own, Put, PutIs, resumed}
+use Rattle.rpm_db.proofs.Vocabulary.{ChangeFault, Gathers, Header, header, header-own, Put, PutAnswer, resumed_database}
 use Rattle.rpm_db.proofs.Refused.{put_same}
 use Rattle.rpm_db.proofs.Results.{if_err, on_err}
 use Rattle.rpm_db.proofs.batch.Batch.replace.Goals as goal
@@ -17,7 +17,7 @@ returns-clause-gathers g c = λ h is.
 pub returns-clause-causes : goal.returns-clause-causes
 returns-clause-causes g c =
     let first : header c.args.blob.now ≡ Ok c.in_ok-view.view = sym c.in_ok-view.ensures.value in
-    put_same (resumed c.args.db.now) _ c.args.blob.now (header-own c.args.blob.now c.in_ok-view.view first ∙ sym first)
+    put_same (resumed_database c.args.db.now) _ c.args.blob.now (header-own c.args.blob.now c.in_ok-view.view first ∙ sym first)
     c.args.n c.replace_view.result c.replace_view.ensures.causes
 
 pub returns-clause-refused : goal.returns-clause-refused
@@ -28,7 +28,7 @@ returns-clause-refused g c = λ which.
     elim which [
       | inl is ↦ c.replace_view.ensures.refused is
       | inr is ↦
-          absurd (let bad = subst (λ (r : Result (Unit {0}) ChangeFault). PutIs (resumed c.args.db.now) c.args.n v.blob r) is.1 causes in
+          absurd (let bad = subst (λ (r : Result (Unit {0}) ChangeFault). PutAnswer (resumed_database c.args.db.now) c.args.n v.blob r) is.1 causes in
           let none : header v.blob ≡ Err is.0 = bad.1 in
           cc)
     ]

@@ -1,6 +1,6 @@
 use Rattle.std.proofs.Common.{arith, false, Some, refl, sym, ap, ◌∙◌}
 use Rattle.std.specs.FinMap as finite
-use Rattle.rpm_db.proofs.Vocabulary.{blobs, database_of, Erase, old_rows, packages, raised, with_spare}
+use Rattle.rpm_db.proofs.Vocabulary.{blobs, database_of, Erase, old_rows, packages, raised_store, with_spare}
 use Rattle.rpm_db.proofs.Applied.{erase_state}
 use Rattle.rpm_db.proofs.Left.{left_done, left_fault, makes_done, makes_fault, ready_inside}
 use Rattle.rpm_db.proofs.Refused.{refusal_goes, erase_cause}
@@ -49,7 +49,7 @@ returns-in-Ok-clause-makes g c =
     let serving = rw (sym c.self.view_is, c.in-Some.is) at c.requires.serving in
     rw (sym c.self.view_is, c.in-Some.is) (makes_done g.D.Disk c.args.disk.now c.erase_number.new.disk st c.in-Some.index c.self.inside.is_stopped
     (Erase c.args.n) (finite.remove (blobs file st) c.args.n) st.field (rw c.in-Some.is at c.self.invariant) c.if-self.false (serving c.if-self.false)
-    (erase_state file st c.args.n) (g.met.D.Disk.as_read c.args.disk.now) e.stops c.erase_number.new.store c.erase_number.new.index _ _
+    (erase_state file st c.args.n) (g.met.D.Disk.as_read c.args.disk.now) e.crashes c.erase_number.new.store c.erase_number.new.index _ _
     (ap Some (sym (ap (with_spare st.spare) e.edit.is))) e.done (omega arith) e.index.full c.args.n refl e.sums)
 
 pub returns-in-Err-clause-makes : goal.returns-in-Err-clause-makes
@@ -60,5 +60,5 @@ returns-in-Err-clause-makes g c =
     let serving = rw (sym c.self.view_is, c.in-Some.is) at c.requires.serving in
     rw (sym c.self.view_is, c.in-Some.is) (makes_fault g.D.Disk c.args.disk.now c.erase_number.new.disk st c.in-Some.index c.self.inside.is_stopped
     (Erase c.args.n) (finite.remove (blobs file st) c.args.n) st.field (rw c.in-Some.is at c.self.invariant) c.if-self.false (serving c.if-self.false)
-    (erase_state file st c.args.n) (g.met.D.Disk.as_read c.args.disk.now) e.stops _ c.in-Err.fault
-    (room_erased st.generation c.args.n (raised st) c.in-Err.fault e.later) e.index.full)
+    (erase_state file st c.args.n) (g.met.D.Disk.as_read c.args.disk.now) e.crashes _ c.in-Err.fault
+    (room_erased st.generation c.args.n (raised_store st) c.in-Err.fault e.later) e.index.full)

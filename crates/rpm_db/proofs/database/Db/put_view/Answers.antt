@@ -5,12 +5,12 @@ use Rattle.rpm_db.proofs.database.Db.put_view.Goals as goal
 pub returns-in-Ok-clause-makes : goal.returns-in-Ok-clause-makes
 returns-in-Ok-clause-makes g c =
     let m = c.in-Ok.ensures.makes in
-    record { room = m.room; changed = m.changed; full = m.full; stops = m.stops }
+    record { room = m.room; changed = m.changed; full = m.full; crashes = m.crashes }
 
 pub returns-in-Err-clause-makes : goal.returns-in-Err-clause-makes
 returns-in-Err-clause-makes g c =
     let m = c.in-Err.ensures.makes in
-    record { room = m.room; changed = m.changed; full = m.full; stops = m.stops }
+    record { room = m.room; changed = m.changed; full = m.full; crashes = m.crashes }
 
 pub returns-in-Err-clause-left : goal.returns-in-Err-clause-left
 returns-in-Err-clause-left g c =

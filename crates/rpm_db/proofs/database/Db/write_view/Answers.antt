@@ -55,7 +55,7 @@ returns-in-Ok-clause-makes g c =
     let was = rw (sym c.self.view_is, c.in-Some.is) at c.requires.ready in
     rw (sym c.self.view_is, c.in-Some.is) (makes_done g.D.Disk c.args.disk.now c.write_header.new.disk st c.in-Some.index c.self.inside.is_stopped
     (change_for c.args.n h.blob) (put_map file st c.args.n h.blob) (field_for c.args.n st) (rw c.in-Some.is at c.self.invariant) was.going was.serving
-    (put_state file st c.args.n h c.requires.own) (g.met.D.Disk.as_read c.args.disk.now) e.stops c.write_header.new.store c.write_header.new.index _
+    (put_state file st c.args.n h c.requires.own) (g.met.D.Disk.as_read c.args.disk.now) e.crashes c.write_header.new.store c.write_header.new.index _
     c.number_of-number.result (sym (put_next c.args.n h.blob st) ∙ e.room.placed) e.done
     (omega (arith, added_is file st c.args.n h c.requires.own)) e.index.full (number_for c.args.n st) (changed_is file st c.args.n h.blob) e.sums)
 
@@ -68,7 +68,7 @@ returns-in-Err-clause-makes g c =
     let was = rw (sym c.self.view_is, c.in-Some.is) at c.requires.ready in
     rw (sym c.self.view_is, c.in-Some.is) (makes_fault g.D.Disk c.args.disk.now c.write_header.new.disk st c.in-Some.index c.self.inside.is_stopped
     (change_for c.args.n h.blob) (put_map file st c.args.n h.blob) (field_for c.args.n st) (rw c.in-Some.is at c.self.invariant) was.going was.serving
-    (put_state file st c.args.n h c.requires.own) (g.met.D.Disk.as_read c.args.disk.now) e.stops _ c.in-Err.fault
+    (put_state file st c.args.n h c.requires.own) (g.met.D.Disk.as_read c.args.disk.now) e.crashes _ c.in-Err.fault
     (rw (put_next c.args.n h.blob st) at e.room.placed) e.index.full)
 
 pub returns-in-Err-clause-bad : goal.returns-in-Err-clause-bad

@@ -1,5 +1,5 @@
 use Rattle.std.proofs.Common.{◌≡◌, ℕ, ◌≤◌, ◌<◌, false, [], length, get_or, sym, ap, subst, ◌∙◌, arith, inl, inr}
-use Rattle.rpm_graph.proofs.Vocabulary.{Contains, IsPlaced, listed_at, rows_of}
+use Rattle.rpm_graph.proofs.Vocabulary.{Contains, IsReadyOrWaits, listed_at, row_lists}
 use Rattle.std.proofs.lemmas.Bool.{cases_lt}
 use Rattle.std.proofs.lemmas.List.{length-map, get_or_default}
 use Rattle.rpm_graph.proofs.Marking.{marked_underway, marked_placed, marked_only, waited}
@@ -12,7 +12,7 @@ loop-other-init c =
     let t = c.mark-waited.new.self in
     let m = c.mark-waited.ensures.listed in
     let read = c.deref-other-items.ensures.value ∙ c.mark-waited.ensures.row in
-    let ends = rows_of c.args.ends.now in
+    let ends = row_lists c.args.ends.now in
     let leasts = c.args.leasts.now in
     let class = c.args.class in
     let inside : class < length ends = omega (arith, r.inside, length-map c.args.ends.now (λ r. r.items)) in
@@ -25,7 +25,7 @@ loop-other-init c =
           elim (marked_placed ends leasts s t r.underway class inside r.unlisted r.ends_listed r.taken m x free (r.placed x lt was)) [
             | inl placed ↦ inl placed
             | inr has ↦ inr (subst (λ l. (i : ℕ) × (0 ≤ i) × (i < length l) × (get_or l i 0 ≡ x)) (sym read)
-                (has.0, omega arith, has.1, get_or_default (get_or (rows_of s.waiting.items) class []) has.0 0 x has.1 ∙ has.2))
+                (has.0, omega arith, has.1, get_or_default (get_or (row_lists s.waiting.items) class []) has.0 0 x has.1 ∙ has.2))
           ];
     }
 
@@ -44,7 +44,7 @@ loop-other-preserved c =
           | inr end ↦
               let here : at.0 ≡ i = omega (arith, at.1, end) in
               let is : get_or c.deref-other-items.result.now i 0 ≡ x = ap (λ j. get_or c.deref-other-items.result.now j 0) (sym here) ∙ at.3 in
-              inl (subst (λ y. IsPlaced c.args.leasts.now c.settle.new.self y) is e.placed)
+              inl (subst (λ y. IsReadyOrWaits c.args.leasts.now c.settle.new.self y) is e.placed)
         ]
       ];
     }
@@ -56,14 +56,14 @@ settle-requires c =
     let t = c.mark-waited.new.self in
     let m = c.mark-waited.ensures.listed in
     let inv = c.loop-other.invariant in
-    let ends = rows_of c.args.ends.now in
+    let ends = row_lists c.args.ends.now in
     let class = c.args.class in
     let inside : class < length ends = omega (arith, r.inside, length-map c.args.ends.now (λ r. r.items)) in
     let xs = c.deref-other-items.result.now in
     let i = c.loop-other.other-index in
     let lt : i < length xs = omega arith in
     let other = get_or xs i 0 in
-    let has : Contains (get_or (rows_of s.waiting.items) class []) other = subst (λ l. Contains l other)
+    let has : Contains (get_or (row_lists s.waiting.items) class []) other = subst (λ l. Contains l other)
     (c.deref-other-items.ensures.value ∙ c.mark-waited.ensures.row) (i, lt, get_or_default xs i other 0 lt) in
     let w = waited ends c.args.leasts.now s t r.underway class inside r.unlisted r.ends_listed r.taken m other has in
     record {

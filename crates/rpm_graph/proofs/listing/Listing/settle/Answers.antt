@@ -1,5 +1,5 @@
 use Rattle.std.proofs.Common.{◌≡◌, ℕ, ◌≤◌, ◌<◌, [], length, get_or, drop, refl, ap, ◌∙◌, arith}
-use Rattle.rpm_graph.proofs.Vocabulary.{Listing, rows_of, with_item, with_items, with_link}
+use Rattle.rpm_graph.proofs.Vocabulary.{Listing, row_lists, with_item, with_items, with_link}
 use Rattle.std.proofs.lemmas.List.{length-map, take_at, get_or_default}
 use Rattle.rpm_graph.proofs.Sets.{insert_kept, insert_only, insert_there, pair_total, pair_exact}
 use Rattle.rpm_graph.proofs.Settling.{row_below, first_read, waits_underway, waits_keeps, waits_placed, ready_underway, ready_keeps, ready_placed}
@@ -8,7 +8,7 @@ use Rattle.rpm_graph.proofs.listing.Listing.settle.Goals as goal
 
 pub first_unlisted-at-requires : goal.first_unlisted-at-requires
 first_unlisted-at-requires c =
-    let ends = rows_of c.args.ends.now in
+    let ends = row_lists c.args.ends.now in
     let u = c.requires.underway in
     let long = length-map c.args.ends.now (λ r. r.items) in
     let row : c.deref-row.result.now ≡ get_or ends c.args.class []
@@ -29,7 +29,7 @@ first_unlisted-at-requires c =
 
 pub push_link-requires : goal.push_link-requires
 push_link-requires c =
-    let ends = rows_of c.args.ends.now in
+    let ends = row_lists c.args.ends.now in
     let at = c.first_unlisted-at.result in
     let row : c.deref-row.result.now ≡ get_or ends c.args.class []
     = c.deref-row.ensures.value ∙ row_read c.args.ends.now c.args.class c.index-ends-class.result c.requires.inside c.index-ends-class.is in
@@ -46,7 +46,7 @@ push_link-requires c =
 
 pub returns-in_ok-push_link : goal.returns-in_ok-push_link
 returns-in_ok-push_link c =
-    let ends = rows_of c.args.ends.now in
+    let ends = row_lists c.args.ends.now in
     let leasts = c.args.leasts.now in
     let s = c.args.self.now in
     let u = c.requires.underway in
@@ -59,9 +59,9 @@ returns-in_ok-push_link c =
     row c.deref.ensures.value (omega (arith, inside, u.checked_long)) c.index.ensures c.first_unlisted-at.ensures in
     let short : at < length (get_or ends class []) = omega (arith, c.if-at-row.true, ap length row) in
     let next = c.push_link.new.rows in
-    let waiting = ap rows_of (take_at next (drop (length next) s.waiting.items) s.waiting.len (c.push_link.auto.rows ∙ c.deref_mut.ensures.len))
-    ∙ c.in_ok-push_link.ensures ∙ ap (λ l. with_link (rows_of l) (get_or c.deref-row.result.now at 0) class) c.deref_mut.ensures.value
-    ∙ ap (λ l. with_link (rows_of s.waiting.items) (get_or l at 0) class) row in
+    let waiting = ap row_lists (take_at next (drop (length next) s.waiting.items) s.waiting.len (c.push_link.auto.rows ∙ c.deref_mut.ensures.len))
+    ∙ c.in_ok-push_link.ensures ∙ ap (λ l. with_link (row_lists l) (get_or c.deref-row.result.now at 0) class) c.deref_mut.ensures.value
+    ∙ ap (λ l. with_link (row_lists s.waiting.items) (get_or l at 0) class) row in
     let t : Listing = record { checked = with_item s.checked class at; waiting = with_items s.waiting next; listed = s.listed; ready = s.ready } in
     record {
       underway = waits_underway ends leasts c.requires.falls s u class inside c.requires.unlisted at first short t refl waiting refl refl;
@@ -72,7 +72,7 @@ returns-in_ok-push_link c =
 
 pub returns-in_ok-insert : goal.returns-in_ok-insert
 returns-in_ok-insert c =
-    let ends = rows_of c.args.ends.now in
+    let ends = row_lists c.args.ends.now in
     let leasts = c.args.leasts.now in
     let s = c.args.self.now in
     let u = c.requires.underway in

@@ -1,6 +1,6 @@
 use Rattle.std.proofs.Common.{◌≡◌, ◌+◌, ◌<◌, [], length, get_or, sym, ap, ◌∙◌, arith}
 use Rattle.std.proofs.lemmas.List.{length-map, get_or_default, get_or-set_same}
-use Rattle.rpm_graph.proofs.Vocabulary.{rows_of}
+use Rattle.rpm_graph.proofs.Vocabulary.{row_lists}
 use Rattle.rpm_graph.proofs.Entering.{entered}
 use Rattle.rpm_graph.proofs.Ends.{none_open}
 use Rattle.rpm_graph.proofs.Fronts.{whole_front}
@@ -11,7 +11,7 @@ pub loop-last-init : goal.loop-last-init
 loop-last-init c =
     let s = c.args.self.now in
     let v = c.args.place in
-    let rows = rows_of c.args.rows.now in
+    let rows = row_lists c.args.rows.now in
     let lt : v < length rows = omega (arith, c.requires.inside, length-map c.args.rows.now (λ row. row.items)) in
     let lt_ranks : v < length s.ranks.items = omega (arith, lt, c.requires.searched.sized) in
     let zero : c.index.result.now ≡ 0 = omega arith in

@@ -1,6 +1,6 @@
 use Rattle.std.proofs.Common.{◌≡◌, ◌+◌, [], ◌<◌, ◌≤◌, length, get_or, sym, subst, ◌∙◌, arith}
 use Rattle.std.proofs.lemmas.List.{length-map, get_or_default}
-use Rattle.rpm_graph.proofs.Vocabulary.{NoneWaits, rows_of}
+use Rattle.rpm_graph.proofs.Vocabulary.{NoneWaits, row_lists}
 use Rattle.rpm_graph.proofs.Closing.{closed_then, closed_work, closed_keeps}
 use Rattle.rpm_graph.proofs.Steps.{row_read, set_keeps, none_waits, last_root}
 use Rattle.rpm_graph.proofs.Taken.{there, search_entered, work_entered, search_joined}
@@ -12,7 +12,7 @@ close-requires-clause-rooted c = c.requires.searched.rooted c.args.root (last_ro
 
 pub returns-in-None : goal.returns-in-None
 returns-in-None c =
-    let rows = rows_of c.args.rows.now in
+    let rows = row_lists c.args.rows.now in
     let s = c.args.self.now in
     let e = c.close.ensures in
     let h = c.in-None.ensures in
@@ -29,10 +29,10 @@ returns-in-None c =
     }
 
 -- where the edge ends
-end_in : (c : After-index-arg-1) → c.in-Some.link.to < length (rows_of c.args.rows.now)
+end_in : (c : After-index-arg-1) → c.in-Some.link.to < length (row_lists c.args.rows.now)
 end_in c =
     let l = c.in-Some.link in
-    c.requires.within l.from l.to (there (rows_of c.args.rows.now) c.args.self.now c.requires.searched c.args.root c.requires.last c.deref.result.now
+    c.requires.within l.from l.to (there (row_lists c.args.rows.now) c.args.self.now c.requires.searched c.args.root c.requires.last c.deref.result.now
     c.deref.ensures.value c.take_waiting.new.pending.items l c.in-Some.ensures.some)
 
 pub index-rank-requires : goal.index-rank-requires
@@ -54,7 +54,7 @@ enter-requires c = omega (arith, end_in (goal.at.enter-requires c).After-index-a
 pub returns-in_ok-enter-in-Some : goal.returns-in_ok-enter-in-Some
 returns-in_ok-enter-in-Some c =
     let s = c.args.self.now in
-    let rows = rows_of c.args.rows.now in
+    let rows = row_lists c.args.rows.now in
     let l = c.in-Some.link in
     let some = c.in-Some.ensures.some in
     let kept = c.take_waiting.new.pending.items in
@@ -78,7 +78,7 @@ returns-in_ok-enter-in-Some c =
 pub returns-else-rank-eq0-clause-searched : goal.returns-else-rank-eq0-clause-searched
 returns-else-rank-eq0-clause-searched c =
     let s = c.args.self.now in
-    let rows = rows_of c.args.rows.now in
+    let rows = row_lists c.args.rows.now in
     let l = c.in-Some.link in
     let e = c.in-Some.ensures in
     let lt = end_in (goal.at.returns-else-rank-eq0-clause-searched c).After-index-arg-1 in

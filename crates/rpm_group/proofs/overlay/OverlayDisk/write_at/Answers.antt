@@ -1,5 +1,5 @@
 use Rattle.std.proofs.Common.{◌≡◌, inr, ℕ, refl, sym, subst, ◌∙◌}
-use Rattle.rpm_group.proofs.Vocabulary.{File, file_of, Files, put, torn_file_none, torn_file_whole, TornFile, Units, units_of, with_file}
+use Rattle.rpm_group.proofs.Vocabulary.{File, file_of, Files, with_units, torn_file_none, torn_file_whole, TornFile, Units, units_of, with_file}
 use Rattle.rpm_group.proofs.overlay.OverlayDisk.write_at.Goals as goal
 
 -- where nothing was written
@@ -11,7 +11,7 @@ module _ (file : File) (at : ℕ) (units : Units) (old new : Files) (same : new 
   none_images image is = (old, refl, subst (λ (f : Files). TornFile file at units old f) (sym is) none_torn)
 
 -- where all was
-module _ (file : File) (at : ℕ) (units : Units) (old new : Files) (written : new ≡ with_file file (put at units (file_of file old)) old) where
+module _ (file : File) (at : ℕ) (units : Units) (old new : Files) (written : new ≡ with_file file (with_units at units (file_of file old)) old) where
   all_torn : TornFile file at units old new
   all_torn = subst (λ (f : Files). TornFile file at units old f) (sym written) (torn_file_whole file at units old)
 

@@ -1,5 +1,5 @@
 use Rattle.std.proofs.Common.{ℕ, ap, ◌∙◌, sym, subst, arith, Ok}
-use Rattle.rpm_header.proofs.Vocabulary.{entries, IsSound}
+use Rattle.rpm_header.proofs.Vocabulary.{entries, IsBlobSound}
 use Rattle.rpm_header.proofs.Opened.{own_sound}
 use Rattle.rpm_header.proofs.view.View.of_checked.Goals as goal
 
@@ -7,7 +7,7 @@ pub u32_at-requires : goal.u32_at-requires
 u32_at-requires c = omega (arith, (own_sound c.args.blob.now c.requires).0.cut.whole)
 
 pub invariant_of-result : goal.invariant_of-result
-invariant_of-result c = subst (λ (n : ℕ). IsSound n c.args.blob.now) (sym c.u32_at.ensures) (own_sound c.args.blob.now c.requires).0
+invariant_of-result c = subst (λ (n : ℕ). IsBlobSound n c.args.blob.now) (sym c.u32_at.ensures) (own_sound c.args.blob.now c.requires).0
 
 pub returns : goal.returns
 returns c =

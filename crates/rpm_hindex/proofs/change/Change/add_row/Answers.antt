@@ -1,5 +1,5 @@
 use Rattle.std.proofs.Common.{◌≡◌, ℕ, ◌+◌, ◌/◌, ◌%◌, ◌<◌, false, length, length-append, refl, sym, ap, ◌∙◌, arith}
-use Rattle.rpm_hindex.proofs.Vocabulary.{Change, changing, Files, is_link, word}
+use Rattle.rpm_hindex.proofs.Vocabulary.{Change, index_after, Files, is_link, word}
 use Rattle.rpm_hindex.proofs.Made.{length-bytes}
 use Rattle.rpm_hindex.proofs.Going.{go_on, bucket_within}
 use Rattle.rpm_hindex.proofs.Adding.{row_added}
@@ -73,6 +73,7 @@ returns-then-not-is_link-clause-bad g c = λ told honest.
     let file : Files = g.D.Disk.files c.args.disk.now in
     let b = c.bucket_of-bucket.result in
     let at : c.used-used.result ≡ s.extent.used + length s.tail.items / 16 = c.used-used.ensures in
-    let no' : is_link (changing s file.idx) c.word-next.result ≡ false = sym (c.is_link.ensures (changing s file.idx) refl (sym at)) ∙ c.if-not-is_link.true in
+    let no' : is_link (index_after s file.idx) c.word-next.result ≡ false = sym (c.is_link.ensures (index_after s file.idx) refl (sym at))
+    ∙ c.if-not-is_link.true in
     bad_head s file.idx (c.requires.open told) honest b c.word-next.result c.bucket_of-bucket.ensures.within (c.word-next.ensures ∙ ap (word (b % 4))
     (c.in_ok-words.ensures.words told)) no'

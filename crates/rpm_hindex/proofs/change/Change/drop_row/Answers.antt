@@ -1,6 +1,6 @@
 use Rattle.std.proofs.Common.{◌≡◌, ℕ, ◌-◌, ◌<◌, ◌∷◌, [], refl, ◌∙◌, arith, subst, inl, inr}
 use Rattle.std.specs.Prelude.{Option, ◌⊎◌}
-use Rattle.rpm_hindex.proofs.Vocabulary.{Change, contains, Files, get, Index, index_in, is_kept, IsFound, IsLinked, IsSoundSpot, IsWithin, nat_cmp, places_of}
+use Rattle.rpm_hindex.proofs.Vocabulary.{Change, contains, Files, get, Index, index_in, is_kept, IsRowFound, IsLinked, IsSoundSpot, IsWithin, nat_cmp, places_of}
 use Rattle.rpm_hindex.proofs.Vocabulary.{Row, row_at, same_is, Spot, StandsWithin, Start}
 use Rattle.rpm_hindex.proofs.Paths.{path_follow}
 use Rattle.rpm_hindex.proofs.Starts.{puts_each, loses, starts_next}
@@ -49,7 +49,7 @@ returns-in-None-clause-dropped g c = λ told.
     let x : Index = index_in s.extent.buckets (g.D.Disk.files c.args.disk.now).idx in
     let b = c.bucket_of-bucket.result in
     let row : Row = record { kind = c.args.row.kind; key = c.args.row.key.now; number = c.args.row.number; place = c.args.row.place } in
-    let f = subst (λ (o : Option Spot). IsFound x b (is_kept (λ p. contains nat_cmp s.dropped p)) row o) c.in-None.is (c.in-Ok.ensures.found.found told) in
+    let f = subst (λ (o : Option Spot). IsRowFound x b (is_kept (λ p. contains nat_cmp s.dropped p)) row o) c.in-None.is (c.in-Ok.ensures.found.found told) in
     record {
       less = λ whole.
           let found = f.found (places_of x b) (chain_are x b (whole.chains b c.bucket_of-bucket.ensures.within)) in
@@ -68,7 +68,7 @@ returns-clause-dropped g c = on_ok c.put_dropped.result _ _ (λ put told.
     let b = c.bucket_of-bucket.result in
     let below = c.bucket_of-bucket.ensures.within in
     let row : Row = record { kind = c.args.row.kind; key = c.args.row.key.now; number = c.args.row.number; place = c.args.row.place } in
-    let f = subst (λ (o : Option Spot). IsFound x b (is_kept (λ p. contains nat_cmp s.dropped p)) row o) c.in-Some.is (c.in-Ok.ensures.found.found told) in
+    let f = subst (λ (o : Option Spot). IsRowFound x b (is_kept (λ p. contains nat_cmp s.dropped p)) row o) c.in-Some.is (c.in-Ok.ensures.found.found told) in
     let linked = subst (IsLinked s.extent.buckets s.extent.used) c.in-Some.is c.in-Ok.ensures.found.linked in
     let sets = c.in_ok-unlink.ensures.sets file.idx (c.in-Ok.ensures.found.words told) in
     record {
@@ -121,7 +121,7 @@ returns-then-self-eq0-clause-refused g c = λ told.
     let b = c.bucket_of-bucket.result in
     let below = c.bucket_of-bucket.ensures.within in
     let row : Row = record { kind = c.args.row.kind; key = c.args.row.key.now; number = c.args.row.number; place = c.args.row.place } in
-    let f = subst (λ (o : Option Spot). IsFound x b (is_kept (λ p. contains nat_cmp s.dropped p)) row o) c.in-Some.is (c.in-Ok.ensures.found.found told) in
+    let f = subst (λ (o : Option Spot). IsRowFound x b (is_kept (λ p. contains nat_cmp s.dropped p)) row o) c.in-Some.is (c.in-Ok.ensures.found.found told) in
     let linked = subst (IsLinked s.extent.buckets s.extent.used) c.in-Some.is c.in-Ok.ensures.found.linked in
     let fewer : (s.records ≡ 0) ⊎ (s.live < c.record_units-units.result) =
     elim c.then-self-eq0.branch [
@@ -174,7 +174,7 @@ returns-clause-starts g c = on_ok c.put_dropped.result _ _ (λ put.
       chained = λ told.
           let x : Index = index_in s.extent.buckets (g.D.Disk.files c.args.disk.now).idx in
           let row : Row = record { kind = c.args.row.kind; key = c.args.row.key.now; number = c.args.row.number; place = c.args.row.place } in
-          let f = subst (λ (o : Option Spot). IsFound x b (is_kept (λ p. contains nat_cmp s.dropped p)) row o) c.in-Some.is
+          let f = subst (λ (o : Option Spot). IsRowFound x b (is_kept (λ p. contains nat_cmp s.dropped p)) row o) c.in-Some.is
           (c.in-Ok.ensures.found.found told) in
           starts_next x b (is_kept (λ p. contains nat_cmp s.dropped p)) (is_kept (λ p. contains nat_cmp c.put_dropped.new.dropped p)) row c.in-Some.spot
           (λ a. get nat_cmp c.args.starts.now a) (λ a. get nat_cmp c.put_start.new.starts a)

@@ -1,21 +1,21 @@
 use Rattle.std.proofs.Common.{◌≡◌, true, ℕ, List, OnOk, sym, subst, ap, ◌∙◌}
-use Rattle.rpm_hindex.proofs.Vocabulary.{after, buckets_after, index_in, is_ordered, IsAfter, IsChanged, IsPaddedPlan, IsPlanFor, Leaves, LeavesOrder}
-use Rattle.rpm_hindex.proofs.Vocabulary.{records, Row, State, Units, Work, WritesPadded}
+use Rattle.rpm_hindex.proofs.Vocabulary.{file_after, buckets_after, index_in, is_ordered, IsAfter, IsChanged, IsPaddedPlan, IsPlanFor, IsDurableAs, LeavesOrder}
+use Rattle.rpm_hindex.proofs.Vocabulary.{records, Row, IndexState, Units, Work, WritesPadded}
 use Rattle.rpm_hindex.proofs.Results.{on_ok}
 use Rattle.rpm_hindex.proofs.index.Hindex.apply.Goals as goal
 
-ordered : (old new : State) (work : Work) → IsAfter old new work → LeavesOrder work → is_ordered new.pending new.second new.units ≡ true
+ordered : (old new : IndexState) (work : Work) → IsAfter old new work → LeavesOrder work → is_ordered new.pending new.second new.units ≡ true
 ordered old new work v leaves =
     ap (λ (b : ℕ). is_ordered b new.second new.units) v.pending
     ∙ ap (λ (u : List ℕ). is_ordered (buckets_after work) u new.units) v.second
     ∙ leaves new.units v.units
 
-applied : (drops adds : List Row) (buckets : ℕ) (old new : Units) (work : Work) → new ≡ after work old → IsPlanFor drops adds buckets old work
+applied : (drops adds : List Row) (buckets : ℕ) (old new : Units) (work : Work) → new ≡ file_after work old → IsPlanFor drops adds buckets old work
     → IsChanged drops adds (records buckets old) (buckets_after work) new
 unfolding IsPlanFor
 applied drops adds buckets old new work is plan = subst (IsChanged drops adds (records buckets old) (buckets_after work)) (sym is) plan
 
-padded : (buckets : ℕ) (old new : Units) (work : Work) → new ≡ after work old → IsPaddedPlan buckets old work
+padded : (buckets : ℕ) (old new : Units) (work : Work) → new ≡ file_after work old → IsPaddedPlan buckets old work
     → WritesPadded work (index_in buckets old) (index_in (buckets_after work) new)
 unfolding IsPaddedPlan
 padded buckets old new work is plan = subst (λ (f : Units). WritesPadded work (index_in buckets old) (index_in (buckets_after work) f)) (sym is) plan
@@ -37,12 +37,12 @@ returns-clause-ordered g c =
     on_ok c.replace.result _ _ (ordered c.args.self.now c.replace.new.self c.args.plan.work) (returns-clause-value g c)
 
 pub returns-in-InPlace-clause-left : goal.returns-in-InPlace-clause-left
-returns-in-InPlace-clause-left g c = subst (λ (w : Work). OnOk c.patch.result (Leaves g.D.Disk c.patch.new.disk c.patch.new.self
-    (after w (g.D.Disk.files c.args.disk.now).idx))) (sym c.in-InPlace.is) c.patch.ensures.left
+returns-in-InPlace-clause-left g c = subst (λ (w : Work). OnOk c.patch.result (IsDurableAs g.D.Disk c.patch.new.disk c.patch.new.self
+    (file_after w (g.D.Disk.files c.args.disk.now).idx))) (sym c.in-InPlace.is) c.patch.ensures.left
 
 pub returns-clause-left : goal.returns-clause-left
-returns-clause-left g c = subst (λ (w : Work). OnOk c.replace.result (Leaves g.D.Disk c.replace.new.disk c.replace.new.self
-    (after w (g.D.Disk.files c.args.disk.now).idx))) (sym c.in-Scratch.is) c.replace.ensures.left
+returns-clause-left g c = subst (λ (w : Work). OnOk c.replace.result (IsDurableAs g.D.Disk c.replace.new.disk c.replace.new.self
+    (file_after w (g.D.Disk.files c.args.disk.now).idx))) (sym c.in-Scratch.is) c.replace.ensures.left
 
 pub returns-in-InPlace-clause-rows : goal.returns-in-InPlace-clause-rows
 returns-in-InPlace-clause-rows g c = on_ok c.patch.result _ _ (λ left told drops adds B plan. applied drops adds B _ _ c.args.plan.work

@@ -1,6 +1,6 @@
 use Rattle.std.proofs.Common.{ℕ, ◌%◌, ◌<◌, List, map, Result, Ok, Err, Vec, Global, sym, ap, ◌∙◌, arith, subst}
 use Rattle.std.specs.Prelude.{IsOk}
-use Rattle.rpm_hindex.proofs.Vocabulary.{AsOften, buckets_of, chain, Extent, Files, hash_of, Hit, HitsAre, Index, index_in, IsOpen, places_in, row_at}
+use Rattle.rpm_hindex.proofs.Vocabulary.{AsOften, buckets_of, chain, Extent, Files, hash_of, Hit, HitsAre, Index, index_in, HasBuckets, places_in, row_at}
 use Rattle.rpm_hindex.proofs.Vocabulary.{unit_at}
 use Rattle.rpm_hindex.proofs.Wholes.{ok_places}
 use Rattle.rpm_hindex.proofs.Orders.{few, open_from, order_parts, ordered_parts, Few}
@@ -22,7 +22,7 @@ gather-requires-clause-open g c =
     let file : Files = g.D.Disk.files c.args.disk.now in
     record {
       few = omega (arith, f.most, ap (λ (e : Extent). e.buckets) c.extent.ensures);
-      is_open = λ told. subst (λ (e : Extent). IsOpen e file.idx) (sym c.extent.ensures) (open_from s file.idx c.requires.order (c.requires.keeps told));
+      is_open = λ told. subst (λ (e : Extent). HasBuckets e file.idx) (sym c.extent.ensures) (open_from s file.idx c.requires.order (c.requires.keeps told));
     }
 
 -- the hits of the chain, in the words of the value

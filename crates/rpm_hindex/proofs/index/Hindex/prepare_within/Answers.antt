@@ -1,6 +1,6 @@
 use Rattle.std.proofs.Common.{◌≡◌, ℕ, Vec, Global, arith, ◌-◌, ◌++◌, sym, ap, ◌∙◌, subst, ◌+◌, ◌*◌, ◌/◌, ◌≤◌, true, false, length, reverse}
 use Rattle.std.specs.Prelude.{IsTrue}
-use Rattle.rpm_hindex.proofs.Vocabulary.{AddsPadded, AddsRows, buckets_of, Change, changing, Extent, Files, first_record, HasLess, index_in, is_bucket_count}
+use Rattle.rpm_hindex.proofs.Vocabulary.{AddsPadded, AddsRows, buckets_of, Change, index_after, Extent, Files, first_record, HasLess, index_in, is_bucket_count}
 use Rattle.rpm_hindex.proofs.Vocabulary.{IsBad, IsBadFor, IsFaulty, IsHonest, IsPaddedPlan, IsPlanFor, IsScratchOf, IsTooLarge, IsTooLargeFor, IsWhole}
 use Rattle.rpm_hindex.proofs.Vocabulary.{contains, is_kept, nat_cmp, records, rows_of, times}
 use Rattle.rpm_hindex.proofs.Gathers.{scratch_plan, scratch_padded, large_for, scratch_reach, place_reach, scratch_sized, place_sized, place_zero}
@@ -103,9 +103,9 @@ returns-clause-prepared g c = if_ok_two c.in_place.result _ _ _ (λ plan can mad
           (first.«open» file.idx (c.requires.keeps told)) (first.whole file.idx (c.requires.keeps told) whole).cut
           (c.in_ok-drop_rows.ensures.dropped told).cuts less whole in
           let last_is : last.extent.buckets ≡ B = ap (λ (e : Extent). e.buckets) add.extent ∙ left.buckets in
-          let all : HasLess drops (records last.extent.buckets file.idx) (rows_of (changing mid file.idx)) = λ r.
+          let all : HasLess drops (records last.extent.buckets file.idx) (rows_of (index_after mid file.idx)) = λ r.
           left.rows' r ∙ ap (λ (n : ℕ). times r (records n file.idx) - times r drops) (sym last_is) in
-          let more = subst (λ (f : Files). IsWhole mid.records mid.live (changing mid f.idx) → AddsRows mid last f.idx adds)
+          let more = subst (λ (f : Files). IsWhole mid.records mid.live (index_after mid f.idx) → AddsRows mid last f.idx adds)
           ((c.drop_rows.ensures.reads.looks.untouched told).same) (c.in_ok-add_rows.ensures.added told).rows in
           let plan_is = place_plan mid last drops adds file.idx plan.work add.go c.in_place.ensures.ordered made (more left.cut.whole) all
           (omega (arith, add.go.records, add.go.few)) (omega (arith, add.go.live, add.go.room)) in
@@ -114,7 +114,7 @@ returns-clause-prepared g c = if_ok_two c.in_place.result _ _ _ (λ plan can mad
             makes = makes;
             padded = subst (λ (n : ℕ). IsPaddedPlan n file.idx plan.work) last_is (place_padded mid last adds file.idx plan.work add.go
                 c.in_place.ensures.ordered made (more left.cut.whole)
-                (subst (λ (n : ℕ). AddsPadded (index_in n file.idx) (changing mid file.idx)) (sym last_is) left.padded));
+                (subst (λ (n : ℕ). AddsPadded (index_in n file.idx) (index_after mid file.idx)) (sym last_is) left.padded));
             size = place_sized drops adds (records B file.idx) last plan.work made;
             reach = λ new changed.
                 let reach = place_reach last plan.work made in
@@ -200,7 +200,7 @@ returns-then-not-has_room-clause-cost g c = λ told whole stays.
     c.in_ok-drop_rows.ensures.keeps.tail first.tail
     (first.«open» file.idx (c.requires.keeps told)) (first.whole file.idx (c.requires.keeps told) whole).cut
     (c.in_ok-drop_rows.ensures.dropped told).cuts less whole in
-    let most = changed_least (changing mid file.idx) mid.records mid.live drops c.args.adds.now (records B file.idx) stays.rows left.cut.whole left.rows'
+    let most = changed_least (index_after mid file.idx) mid.records mid.live drops c.args.adds.now (records B file.idx) stays.rows left.cut.whole left.rows'
     stays.changed in
     let room : c.has_room.result ≡ true = c.has_room.ensures.least (omega (arith, most.0, stays.few, left.buckets))
     (omega (arith, left.open'.used, stays.room)) (omega (arith, left.open'.used, stays.half, most.1, left.buckets)) in

@@ -1,7 +1,6 @@
 use Rattle.std.proofs.Common.{sym, subst, ap, ◌∙◌, arith, ℕ, List, length, ◌+◌, ◌≤◌, ◌^◌}
 use Rattle.rpm_hindex.proofs.Vocabulary.{ArePadded, bucket_count, EndsInZero, first_record, index_in, is_ordered, IsWellFormed, live_of, records, SameRows}
-use Rattle.rpm_hindex.proofs.Vocabulary.{Units, units_of, word}
-use Rattle.std.specs.Prelude.{IsTrue}
+use Rattle.rpm_hindex.proofs.Vocabulary.{Units, word}
 use Rattle.rpm_hindex.proofs.Drafting.{length-le-live}
 use Rattle.rpm_hindex.proofs.Scratch.{image_ordered, image_size, image_zero}
 use Rattle.rpm_hindex.proofs.Seals.{image_held}

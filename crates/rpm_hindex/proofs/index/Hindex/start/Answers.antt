@@ -1,5 +1,5 @@
 use Rattle.std.proofs.Common.{ℕ, length, sym, ap, ◌∙◌, arith, subst}
-use Rattle.rpm_hindex.proofs.Vocabulary.{Extent, is_bucket_count, IsOpen, IsWellFormed, State, word}
+use Rattle.rpm_hindex.proofs.Vocabulary.{Extent, is_bucket_count, HasBuckets, IsWellFormed, IndexState, word}
 use Rattle.rpm_hindex.proofs.Orders.{started, open_from}
 use Rattle.rpm_hindex.proofs.Placing.{started as placed_start}
 use Rattle.rpm_hindex.proofs.Honest.{starts_honest}
@@ -14,8 +14,8 @@ new-requires c =
       few = s.few;
       front = s.front;
       room = s.room;
-      live = omega (arith, s.live, c.word-live.ensures, ap (λ (s : State). word 2 s.second) c.self.view_is);
-      records = omega (arith, s.records, c.word-records.ensures, ap (λ (s : State). word 1 s.second) c.self.view_is);
+      live = omega (arith, s.live, c.word-live.ensures, ap (λ (s : IndexState). word 2 s.second) c.self.view_is);
+      records = omega (arith, s.records, c.word-records.ensures, ap (λ (s : IndexState). word 1 s.second) c.self.view_is);
     }
 
 pub returns-clause-fits : goal.returns-clause-fits
@@ -26,13 +26,13 @@ returns-clause-fits c = omega (
 )
 
 pub returns-clause-open : goal.returns-clause-open
-returns-clause-open c = λ file keeps. subst (λ (e : Extent). IsOpen e file) (sym (c.new.ensures.begins.extent ∙ c.extent.ensures))
+returns-clause-open c = λ file keeps. subst (λ (e : Extent). HasBuckets e file) (sym (c.new.ensures.begins.extent ∙ c.extent.ensures))
     (open_from c.args.self.now file c.requires.order keeps)
 
 pub returns-clause-whole : goal.returns-clause-whole
 returns-clause-whole c = λ file keeps whole.
     let extent = c.new.ensures.begins.extent ∙ c.extent.ensures in
-    let first = ap (λ (s : State). s.second) c.self.view_is ∙ keeps.second in
+    let first = ap (λ (s : IndexState). s.second) c.self.view_is ∙ keeps.second in
     placed_start c.new.result file c.new.ensures.begins.units (ap length c.new.ensures.begins.tail) (ap (word 0) (sym keeps.second)
     ∙ sym (ap (λ (e : Extent). e.used) extent))
     (c.new.ensures.begins.records ∙ c.word-records.ensures ∙ ap (word 1) first) (c.new.ensures.begins.live ∙ c.word-live.ensures ∙ ap (word 2) first)
@@ -45,13 +45,13 @@ returns-clause-count c = ap (λ (e : Extent). is_bucket_count e.buckets) c.new.e
 
 pub returns-clause-honest : goal.returns-clause-honest
 returns-clause-honest c = λ file keeps.
-    let first = ap (λ (s : State). s.second) c.self.view_is ∙ keeps.second in
+    let first = ap (λ (s : IndexState). s.second) c.self.view_is ∙ keeps.second in
     starts_honest c.new.result file c.new.ensures.begins.units (c.new.ensures.begins.records ∙ c.word-records.ensures ∙ ap (word 1) first)
     (c.new.ensures.begins.live ∙ c.word-live.ensures ∙ ap (word 2) first)
 
 pub returns-clause-fresh : goal.returns-clause-fresh
 returns-clause-fresh c = λ file keeps.
-    let first = ap (λ (s : State). s.second) c.self.view_is ∙ keeps.second in
+    let first = ap (λ (s : IndexState). s.second) c.self.view_is ∙ keeps.second in
     record {
       records = c.new.ensures.begins.records ∙ c.word-records.ensures ∙ ap (word 1) first;
       live = c.new.ensures.begins.live ∙ c.word-live.ensures ∙ ap (word 2) first;

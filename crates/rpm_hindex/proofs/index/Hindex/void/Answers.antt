@@ -1,5 +1,5 @@
 use Rattle.std.proofs.Common.{arith, ap, sym, ◌∙◌, refl, subst, ℕ, max, rules}
-use Rattle.rpm_hindex.proofs.Vocabulary.{blank, changes_weaker, Idx, Keeps, State, VoidOrSame}
+use Rattle.rpm_hindex.proofs.Vocabulary.{blank, changes_weaker, Idx, KeepsIndexValue, IndexState, VoidOrSame}
 use Rattle.rpm_hindex.proofs.TornWrites.{torn_void}
 use Rattle.rpm_hindex.proofs.Seals.{front_kept, same_state}
 use Rattle.rpm_hindex.proofs.index.Hindex.void.Goals as goal
@@ -29,11 +29,12 @@ pub returns-clause-left : goal.returns-clause-left
 unfolding blank
 returns-clause-left g c = record {
   written = c.in_ok-write_synced.ensures.written;
-  settled = c.in_ok-write_synced.ensures.settled;
+  durable = c.in_ok-write_synced.ensures.durable;
   kept = λ told.
-      let second = ap (λ (s : State). s.second) c.self.view_is in
-      let units = ap (λ (s : State). s.units) c.self.view_is in
-      subst (Keeps (g.D.Disk.files c.write_synced.new.disk).idx) (sym (same_state _ blank _ c.args.self.now.second _ (max c.args.self.now.units 1) refl
+      let second = ap (λ (s : IndexState). s.second) c.self.view_is in
+      let units = ap (λ (s : IndexState). s.units) c.self.view_is in
+      subst (KeepsIndexValue (g.D.Disk.files c.write_synced.new.disk).idx)
+      (sym (same_state _ blank _ c.args.self.now.second _ (max c.args.self.now.units 1) refl
       second (c.max-self-inside.ensures ∙ ap (λ (n : ℕ). max n 1) units)))
       (front_kept blank (g.D.Disk.files c.args.disk.now).idx (g.D.Disk.files c.write_synced.new.disk).idx (c.in_ok-write_synced.ensures.written told)
       c.args.self.now

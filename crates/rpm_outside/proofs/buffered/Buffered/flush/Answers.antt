@@ -1,6 +1,6 @@
 use Rattle.std.proofs.Common.{◌-◌, ◌≤◌, length, arith}
 use Rattle.std.proofs.lemmas.List.{length-take, length-drop}
-use Rattle.rpm_outside.proofs.Vocabulary.{holds, inner}
+use Rattle.rpm_outside.proofs.Vocabulary.{held_bytes, inner}
 use Rattle.rpm_outside.proofs.Buffering.{handed_more}
 use Rattle.rpm_outside.proofs.buffered.Buffered.flush.Goals as goal
 
@@ -11,5 +11,5 @@ loop-self-preserved g c =
     let goes = g.met.O.Sink.follows_trans (inner c.args.self.now) c.loop-self.self.sink c.write.new.self c.loop-self.invariant.goes_on
     c.write.ensures.follows in
     handed_more g.O.Sink (inner c.args.self.now) c.loop-self.self.sink c.write.new.self
-    (holds c.args.self.now) c.loop-self.self.held.items c.as_slice.result.now c.loop-self.self.gone c.in_ok-self.field-0 c.as_slice.ensures.value
+    (held_bytes c.args.self.now) c.loop-self.self.held.items c.as_slice.result.now c.loop-self.self.gone c.in_ok-self.field-0 c.as_slice.ensures.value
     fits c.loop-self.invariant c.in_ok-self.ensures.taken c.write.ensures.cause.later goes

@@ -52,14 +52,14 @@ returns-clause-image c =
       begun_before disk.copies disk.steps.items (held_files disk.first) (held_files disk.held) disk.copied c.args.moment c.in_ok-from.from
           (held_files c.in_ok-from.start) c.in_ok-from.ensures,
     ) in
-    let files : mem_files c.settled.result ≡ held_files c.loop-k.image = c.settled.ensures.files ∙ c.in_ok-copy_of.ensures in
+    let files : mem_files c.durable.result ≡ held_files c.loop-k.image = c.durable.ensures.files ∙ c.in_ok-copy_of.ensures in
     subst (λ (f : Files). Images (take c.args.moment disk.steps.items) (held_files disk.first) f) (sym files)
     (subst (λ (n : ℕ). Images (take n disk.steps.items) (held_files disk.first) (held_files c.loop-k.image)) all c.loop-k.invariant.image)
 
 pub returns-clause-units : goal.returns-clause-units
 returns-clause-units c =
     let disk = c.args.self.now in
-    images_are (take c.args.moment disk.steps.items) (held_files disk.first) (mem_files c.settled.result) (returns-clause-image c)
+    images_are (take c.args.moment disk.steps.items) (held_files disk.first) (mem_files c.durable.result) (returns-clause-image c)
 
 pub returns-clause-picked : goal.returns-clause-picked
 returns-clause-picked c =
@@ -69,5 +69,5 @@ returns-clause-picked c =
       begun_before disk.copies disk.steps.items (held_files disk.first) (held_files disk.held) disk.copied c.args.moment c.in_ok-from.from
           (held_files c.in_ok-from.start) c.in_ok-from.ensures,
     ) in
-    c.settled.ensures.files ∙ c.in_ok-copy_of.ensures ∙ c.loop-k.invariant.picked ∙ ap (λ (n : ℕ). picked_image c.args.pick (take n disk.steps.items)
+    c.durable.ensures.files ∙ c.in_ok-copy_of.ensures ∙ c.loop-k.invariant.picked ∙ ap (λ (n : ℕ). picked_image c.args.pick (take n disk.steps.items)
     (held_files disk.first) (held_files disk.first)) all

@@ -12,13 +12,13 @@ invariant_of-self-2 c =
       replayed = disk.replayed
           ∙ sym (after_steps-push disk.steps.items (Synced c.args.file) (held_files disk.first))
           ∙ ap (λ s. after_steps s (held_files disk.first)) (sym c.in-Ok.ensures.ok);
-      copied = sync_held disk.copies c.settle.new.self disk.steps.items (held_files disk.first) (held_files disk.held) disk.copied
+      copied = sync_held disk.copies c.note_sync.new.self disk.steps.items (held_files disk.first) (held_files disk.held) disk.copied
           c.keep_sync.new.steps.items c.args.file c.len.result disk.replayed c.in-Ok.ensures.ok (omega (arith, c.len.ensures, c.keep_sync.new.steps.ok.0))
-          c.settle.ensures;
+          c.note_sync.ensures;
     }
 
-pub returns-clause-settled : goal.returns-clause-settled
-returns-clause-settled c = λ told image since.
+pub returns-clause-durable : goal.returns-clause-durable
+returns-clause-durable c = λ told image since.
     let disk = c.args.self.now in
     (sync_step disk.steps.items c.keep_sync.new.steps.items c.args.file (held_files disk.first) image c.in-Ok.ensures.ok since).1
     ∙ ap (λ (f : Files). file_of c.args.file f) (sym disk.replayed)

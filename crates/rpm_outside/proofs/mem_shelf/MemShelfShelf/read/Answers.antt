@@ -1,5 +1,5 @@
 use Rattle.std.proofs.Common.{◌≡◌, Some, List, ℕ, ◌+◌, ◌++◌, take, drop, sym, ap, subst, Option, arith}
-use Rattle.rpm_outside.proofs.Vocabulary.{bytes_in, left_in, rest_of, TakesFront}
+use Rattle.rpm_outside.proofs.Vocabulary.{bytes_in, left_in, rest_of_item, TakesFront}
 use Rattle.rpm_outside.proofs.Shelving.{TakesFirst, reads_first}
 use Rattle.rpm_outside.proofs.mem_shelf.MemShelfShelf.read.Goals as goal
 
@@ -21,4 +21,4 @@ returns-clause-taken c = λ told.
     } in
     let first = reads_first held left into given at count is_left takes in
     subst (λ (old : Option (List ℕ)). TakesFront old (left_in items (record { item = c.in-Some.opened.item; at = at + count })) (take count given))
-    (sym (ap (rest_of items) c.in-Some.is)) first
+    (sym (ap (rest_of_item items) c.in-Some.is)) first

@@ -1,5 +1,5 @@
 use Rattle.std.proofs.Common.{◌++◌, sym, subst, ap, ◌∙◌}
-use Rattle.rpm_outside.proofs.Vocabulary.{Begins, handed, holds, inner}
+use Rattle.rpm_outside.proofs.Vocabulary.{IsPrefix, handed, held_bytes, inner}
 use Rattle.rpm_outside.proofs.Buffering.{write_grows, more_held, all_held, wrote_past}
 use Rattle.rpm_outside.proofs.puts.BufferedSink.write.Goals as goal
 
@@ -8,7 +8,7 @@ returns-then-keep-clause-follows g c =
     let old = c.args.self.now in
     let new = c.keep.new.self in (
       subst (g.O.Sink.follows (inner old)) (sym c.keep.ensures.inner) (g.met.O.Sink.follows_refl (inner old)),
-      λ told. more_held (g.O.Sink.taken (inner old)) (g.O.Sink.taken (inner new)) (holds old) (holds new) c.args.bytes.now
+      λ told. more_held (g.O.Sink.taken (inner old)) (g.O.Sink.taken (inner new)) (held_bytes old) (held_bytes new) c.args.bytes.now
           (ap g.O.Sink.taken c.keep.ensures.inner) (c.keep.ensures.kept c.if-keep.true),
     )
 
@@ -19,10 +19,10 @@ returns-in_err-flush-clause-follows g c =
     let new = c.flush.new.self in
     let taken = g.O.Sink.taken in (
       subst (λ (o : _). g.O.Sink.follows o (inner new)) c.keep.ensures.inner c.flush.ensures.goes_on,
-      λ told. all_held (taken (inner old)) (taken (inner new)) (holds old) (holds new)
-          (handed g.O.Sink.tells (taken (inner mid)) (taken (inner new)) c.flush.ensures.out (holds mid) (holds new) c.flush.ensures.gained
+      λ told. all_held (taken (inner old)) (taken (inner new)) (held_bytes old) (held_bytes new)
+          (handed g.O.Sink.tells (taken (inner mid)) (taken (inner new)) c.flush.ensures.out (held_bytes mid) (held_bytes new) c.flush.ensures.gained
           c.flush.ensures.whole told
-          ∙ ap (λ (y : _). taken y ++ holds mid) c.keep.ensures.inner ∙ ap (λ (y : _). taken (inner old) ++ y) (c.keep.ensures.same c.if-keep.false)),
+          ∙ ap (λ (y : _). taken y ++ held_bytes mid) c.keep.ensures.inner ∙ ap (λ (y : _). taken (inner old) ++ y) (c.keep.ensures.same c.if-keep.false)),
     )
 
 pub returns-clause-follows : goal.returns-clause-follows
@@ -35,11 +35,11 @@ returns-clause-follows g c =
     let flushed = subst (λ (o : _). g.O.Sink.follows o (inner out)) c.keep.ensures.inner c.flush.ensures.goes_on in
     let wrote = subst (λ (o : _). g.O.Sink.follows o c.write.new.self) c.keep-2.ensures.inner c.write.ensures.follows in (
       g.met.O.Sink.follows_trans (inner old) (inner out) c.write.new.self flushed wrote,
-      λ told. wrote_past (taken (inner old)) (taken (inner out)) (taken c.write.new.self) (holds old) (holds out) (holds last)
-          (handed g.O.Sink.tells (taken (inner mid)) (taken (inner out)) c.flush.ensures.out (holds mid) (holds out) c.flush.ensures.gained
+      λ told. wrote_past (taken (inner old)) (taken (inner out)) (taken c.write.new.self) (held_bytes old) (held_bytes out) (held_bytes last)
+          (handed g.O.Sink.tells (taken (inner mid)) (taken (inner out)) c.flush.ensures.out (held_bytes mid) (held_bytes out) c.flush.ensures.gained
           c.flush.ensures.whole told
-          ∙ ap (λ (y : _). taken y ++ holds mid) c.keep.ensures.inner ∙ ap (λ (y : _). taken (inner old) ++ y) (c.keep.ensures.same c.if-keep.false))
+          ∙ ap (λ (y : _). taken y ++ held_bytes mid) c.keep.ensures.inner ∙ ap (λ (y : _). taken (inner old) ++ y) (c.keep.ensures.same c.if-keep.false))
           c.in_ok-flush.ensures.none (c.keep-2.ensures.same c.if-keep-2.false ∙ c.in_ok-flush.ensures.none)
-          (subst (λ (y : _). Begins (taken y) (taken c.write.new.self)) c.keep-2.ensures.inner (write_grows g.O.Sink.tells (taken (inner last))
+          (subst (λ (y : _). IsPrefix (taken y) (taken c.write.new.self)) c.keep-2.ensures.inner (write_grows g.O.Sink.tells (taken (inner last))
           (taken c.write.new.self) c.args.bytes.now c.write.result c.write.ensures.taken c.write.ensures.nothing told)),
     )

@@ -1,7 +1,7 @@
 use Rattle.std.proofs.Common.{◌≡◌, ℕ, ◌^◌, List, Some, None, sym, ap, ◌∙◌, subst, set}
 use Rattle.std.specs.Prelude.{Contains, SomeIndex, true}
-use Rattle.rpm_pkgdb.proofs.Vocabulary.{after_moves, AreMoves, AreRangesOf, AreSound, begins_in, is_used, IsFree, IsLeast, IsLeastFit, IsRanged, moved, Page}
-use Rattle.rpm_pkgdb.proofs.Vocabulary.{Range, range, range_at, range_of, Slot, slot_at, with_range, with_range_keeps, without}
+use Rattle.rpm_pkgdb.proofs.Vocabulary.{after_moves, AreMoves, AreRangesOf, AreSound, begins_in, is_used, IsFree, IsLeast, IsLeastFit, IsRanged, moved_slot, Page}
+use Rattle.rpm_pkgdb.proofs.Vocabulary.{Range, range, range_at, range_of_slot, Slot, slot_at, with_range, with_range_keeps, without}
 use Rattle.rpm_pkgdb.proofs.PlanLaws.{least_from}
 use Rattle.rpm_pkgdb.proofs.PageLaws.{moved_sound, moved_ranges, planning_more}
 use Rattle.rpm_pkgdb.proofs.page_plan.Page.add_move.Goals as goal
@@ -37,12 +37,12 @@ remove-requires c =
     let s = slot_at p.slots.items place in
     let is : c.at-slot.result ≡ s = c.at-slot.ensures ∙ ap (λ (l : List Slot). slot_at l place) c.deref.ensures.value in
     let r = c.requires.ranged.2 in
-    let there : Contains c.reserve.new.self.ranges (range_of s) = subst (λ (l : List Range). Contains l (range_of s)) (sym c.reserve.ensures.ranges)
+    let there : Contains c.reserve.new.self.ranges (range_of_slot s) = subst (λ (l : List Range). Contains l (range_of_slot s)) (sym c.reserve.ensures.ranges)
     (r.ranges.each place c.requires.first.used) in
-    let after : Contains c.insert.new.self.ranges (range_of s) = subst (λ (l : List Range). Contains l (range_of s)) (sym c.insert.ensures.ranges)
-    (with_range_keeps (range c.in-Some.to c.at-slot.result.count) (range_of s) c.reserve.new.self.ranges there) in
+    let after : Contains c.insert.new.self.ranges (range_of_slot s) = subst (λ (l : List Range). Contains l (range_of_slot s)) (sym c.insert.ensures.ranges)
+    (with_range_keeps (range c.in-Some.to c.at-slot.result.count) (range_of_slot s) c.reserve.new.self.ranges there) in
     subst (λ (t : Slot). SomeIndex c.insert.new.self.ranges (λ i. (range_at c.insert.new.self.ranges i).start ≡ t.offset)) (sym is)
-    (begins_in c.insert.new.self.ranges (range_of s) after)
+    (begins_in c.insert.new.self.ranges (range_of_slot s) after)
 
 pub returns-clause-ranged : goal.returns-clause-ranged
 returns-clause-ranged c = λ pages low r.
@@ -55,9 +55,9 @@ returns-clause-ranged c = λ pages low r.
     let to = c.in-Some.to in
     record {
       some = r.some;
-      sound = subst (λ (t : Slot). AreSound pages (2 ^ 28) (set p.slots.items place (moved t to))) (sym is)
+      sound = subst (λ (t : Slot). AreSound pages (2 ^ 28) (set p.slots.items place (moved_slot t to))) (sym is)
           (moved_sound pages p.slots.items r.sound place c.args.end to low c.requires.first least r.some);
-      ranges = subst (λ (t : Slot). AreRangesOf c.remove.new.self.ranges (set p.slots.items place (moved t to))) (sym is)
+      ranges = subst (λ (t : Slot). AreRangesOf c.remove.new.self.ranges (set p.slots.items place (moved_slot t to))) (sym is)
           (moved_ranges pages p.slots.items r.sound place c.args.end to low c.requires.first least r.some p.used.ranges c.insert.new.self.ranges
           c.remove.new.self.ranges r.ranges
           (c.insert.ensures.ranges ∙ ap (with_range (range to c.at-slot.result.count)) c.reserve.ensures.ranges ∙ ap
@@ -79,7 +79,7 @@ returns-clause-planning c = λ slots planning.
     let more = planning_more slots end p.moves.items p.slots.items pages place to r.sound planning.moves planning.slots_are c.requires.first least in
     record {
       moves = subst (AreMoves slots end) (sym c.in_ok-push.ensures.items) more.are;
-      slots_are = ap (λ (t : Slot). set p.slots.items place (moved t to)) is ∙ more.slots_are ∙ ap (after_moves slots) (sym c.in_ok-push.ensures.items);
+      slots_are = ap (λ (t : Slot). set p.slots.items place (moved_slot t to)) is ∙ more.slots_are ∙ ap (after_moves slots) (sym c.in_ok-push.ensures.items);
     }
 
 pub returns-clause-moved : goal.returns-clause-moved
@@ -87,4 +87,4 @@ returns-clause-moved c =
     let p = c.args.self.now in
     let place = c.args.place in
     let is : c.at-slot.result ≡ slot_at p.slots.items place = c.at-slot.ensures ∙ ap (λ (l : List Slot). slot_at l place) c.deref.ensures.value in
-    (c.in-Some.to, c.in-Some.ensures.least.0, ap (λ (t : Slot). set p.slots.items place (moved t c.in-Some.to)) is)
+    (c.in-Some.to, c.in-Some.ensures.least.0, ap (λ (t : Slot). set p.slots.items place (moved_slot t c.in-Some.to)) is)

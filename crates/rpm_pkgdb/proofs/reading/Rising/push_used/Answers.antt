@@ -1,5 +1,5 @@
 use Rattle.std.proofs.Common.{◌≡◌, ℕ, ◌+◌, List, [], ◌∷◌, ◌++◌, length, sym, ap, ◌∙◌, subst, arith}
-use Rattle.rpm_pkgdb.proofs.Vocabulary.{end_of, InOrder, Pairs, Slot}
+use Rattle.rpm_pkgdb.proofs.Vocabulary.{end_of, PairsInOrder, Pairs, Slot}
 use Rattle.rpm_pkgdb.proofs.OrderLaws.{order_used}
 use Rattle.rpm_pkgdb.proofs.reading.Rising.push_used.Goals as goal
 
@@ -22,8 +22,8 @@ returns-clause-order c =
     let place : c.len-place.result ≡ length old.slots.items = c.len-place.ensures ∙ old.slots.ok.0 in
     let pairs : c.push_reserved-2.new.self.items ≡ old.pairs.items ++ (s.number, length old.slots.items) ∷ [] =
     c.push_reserved-2.ensures.items ∙ ap (λ (n : ℕ). old.pairs.items ++ (s.number, n) ∷ []) place in
-    subst (λ (ss : List Slot). InOrder ss c.push_reserved-2.new.self.items old.free numbers blocks (s.number + 1) (end_of s))
+    subst (λ (ss : List Slot). PairsInOrder ss c.push_reserved-2.new.self.items old.free numbers blocks (s.number + 1) (end_of s))
     (sym c.push_reserved.ensures.items)
-    (subst (λ (l : Pairs). InOrder (old.slots.items ++ s ∷ []) l old.free numbers blocks (s.number + 1) (end_of s)) (sym pairs)
+    (subst (λ (l : Pairs). PairsInOrder (old.slots.items ++ s ∷ []) l old.free numbers blocks (s.number + 1) (end_of s)) (sym pairs)
     (order_used old.slots.items s old.pairs.items old.free old.numbers_rise old.blocks_rise old.number old.block c.requires.order c.requires.used
     numbers blocks c.still_rise-self.ensures c.still_rise-self-2.ensures))

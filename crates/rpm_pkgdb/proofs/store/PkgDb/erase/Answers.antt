@@ -1,9 +1,9 @@
 use Rattle.std.proofs.Common.{◌≡◌, ℕ, length, Option, None, Some, sym, ap, subst, ◌∙◌, arith}
 use Rattle.std.specs.FinMap as finite
 use Rattle.rpm_outside.specs.declared.disk.Disk as disk
-use Rattle.rpm_pkgdb.proofs.Vocabulary.{AreZeros, BeforeOrAfter, blobs, ErasesTo, EraseStops, find_in, Forgets, HasSlot, is_used, IsErased, IsKept, IsPlaced}
-use Rattle.rpm_pkgdb.proofs.Vocabulary.{Keeps, pkg, Slot, StaysBut, StopsIn, Store, with_free}
-use Rattle.rpm_pkgdb.proofs.Changing.{stops_weaker}
+use Rattle.rpm_pkgdb.proofs.Vocabulary.{AreZeros, StoreBeforeOrAfter, blobs, ErasesTo, EraseCrashes, find_in, Forgets, HasSlot, is_used, IsErased, IsKept, IsPlaced}
+use Rattle.rpm_pkgdb.proofs.Vocabulary.{KeepsStore, pkg, Slot, StaysBut, CrashLeavesFile, Store, with_free}
+use Rattle.rpm_pkgdb.proofs.Changing.{crashes_weaker}
 use Rattle.rpm_pkgdb.proofs.RangeLaws.{freed_used}
 use Rattle.rpm_pkgdb.proofs.ErasesTo.{erases_to, freed_map}
 use Rattle.rpm_pkgdb.proofs.StayLaws.{freed_stay}
@@ -13,30 +13,30 @@ use Rattle.rpm_pkgdb.proofs.Held.{found_at_slot, freed_kept, freed_taken}
 use Rattle.rpm_pkgdb.proofs.Written.{written}
 use Rattle.rpm_pkgdb.proofs.store.PkgDb.erase.Goals as goal
 
--- what stops leave while a slot is set free, of its number
-stops : {D : Type 0} (d : disk.Ghosts D) (a b : D) (st : Store) (k n : ℕ) (s : Slot) → HasSlot st k s → s.number ≡ n → Keeps (pkg d a) st
-    → StopsIn d a b (BeforeOrAfter st (with_free k st) (pkg d a)) → EraseStops d a b st n
-stops d a b st k n s has number keeps left = record {
+-- what crashes leave while a slot is set free, of its number
+crashes : {D : Type 0} (d : disk.Ghosts D) (a b : D) (st : Store) (k n : ℕ) (s : Slot) → HasSlot st k s → s.number ≡ n → KeepsStore (pkg d a) st
+    → CrashLeavesFile d a b (StoreBeforeOrAfter st (with_free k st) (pkg d a)) → EraseCrashes d a b st n
+crashes d a b st k n s has number keeps left = record {
   images =
-      stops_weaker d (BeforeOrAfter st (with_free k st) (pkg d a)) (ErasesTo st n (pkg d a)) a b
+      crashes_weaker d (StoreBeforeOrAfter st (with_free k st) (pkg d a)) (ErasesTo st n (pkg d a)) a b
       (erases_to st k n s has number (pkg d a) keeps) left;
   left =
-      stops_weaker d (BeforeOrAfter st (with_free k st) (pkg d a)) (StaysBut n None st (pkg d a)) a b
+      crashes_weaker d (StoreBeforeOrAfter st (with_free k st) (pkg d a)) (StaysBut n None st (pkg d a)) a b
       (erases_but st k n s has number (pkg d a) keeps) left;
 }
 
-pub returns-in_default-clause-stops : goal.returns-in_default-clause-stops
-returns-in_default-clause-stops g c = λ told quiet.
+pub returns-in_default-clause-crashes : goal.returns-in_default-clause-crashes
+returns-in_default-clause-crashes g c = λ told quiet.
     let st = c.args.self.now in
     let slot = c.slot_place-place.ensures in
-    stops g.D.Disk c.args.disk.now c.free_slot.new.disk st c.slot_place-place.result.0 c.args.n c.slot_place-place.result.1 slot.slot slot.number
+    crashes g.D.Disk c.args.disk.now c.free_slot.new.disk st c.slot_place-place.result.0 c.args.n c.slot_place-place.result.1 slot.slot slot.number
     (c.requires.keeps told) (c.free_slot.ensures.images told st slot.slot quiet)
 
-pub returns-clause-stops : goal.returns-clause-stops
-returns-clause-stops g c = λ told quiet.
+pub returns-clause-crashes : goal.returns-clause-crashes
+returns-clause-crashes g c = λ told quiet.
     let st = c.args.self.now in
     let slot = c.slot_place-place.ensures in
-    stops g.D.Disk c.args.disk.now c.free_slot.new.disk st c.slot_place-place.result.0 c.args.n c.slot_place-place.result.1 slot.slot slot.number
+    crashes g.D.Disk c.args.disk.now c.free_slot.new.disk st c.slot_place-place.result.0 c.args.n c.slot_place-place.result.1 slot.slot slot.number
     (c.requires.keeps told) (c.free_slot.ensures.images told st slot.slot quiet)
 
 pub invariant_of-self-2 : goal.invariant_of-self-2

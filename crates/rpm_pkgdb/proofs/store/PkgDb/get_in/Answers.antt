@@ -1,5 +1,5 @@
 use Rattle.std.proofs.Common.{ℕ, List, Some, sym, ap, ◌∙◌}
-use Rattle.rpm_pkgdb.proofs.Vocabulary.{AnswerIs, blobs, frame_in, given}
+use Rattle.rpm_pkgdb.proofs.Vocabulary.{AnswerIs, blobs, frame_in, given_bytes}
 use Rattle.std.specs.FinMap as finite
 use Rattle.rpm_pkgdb.proofs.Changing.{err_given}
 use Rattle.rpm_pkgdb.proofs.Told.{at_frames, fault_told}
@@ -9,8 +9,8 @@ pub returns-in_err-blocks-clause-told : goal.returns-in_err-blocks-clause-told
 returns-in_err-blocks-clause-told g c = λ told.
     let file = (g.D.Disk.files c.args.disk.now).pkg in
     let st = c.args.self.now in
-    err_given (AnswerIs given (finite.get (blobs file st) c.args.n)) _ c.from_residual.result c.from_residual.ensures
-    (fault_told file st c.args.n given _ (c.in_err-blocks.ensures.told told))
+    err_given (AnswerIs given_bytes (finite.get (blobs file st) c.args.n)) _ c.from_residual.result c.from_residual.ensures
+    (fault_told file st c.args.n given_bytes _ (c.in_err-blocks.ensures.told told))
 
 pub returns-clause-told : goal.returns-clause-told
 returns-clause-told g c = λ told.

@@ -1,4 +1,4 @@
-use Rattle.rpm_pkgdb.proofs.Vocabulary.{Anything, CanGrowBy, IsGrown, Move, moves_of, moving_cost, Page, Pkg, StandsStill, started, Stops, Writes}
+use Rattle.rpm_pkgdb.proofs.Vocabulary.{Anything, CanGrowBy, IsGrown, Move, moves_of, moving_cost, Page, Pkg, RepresentsBlobs, started, IsTornOnly, Writes}
 use Rattle.std.proofs.Common.{◌≡◌, ◌*◌, List, Option, Some, OnOk, refl, sym, ap, ◌∙◌, subst, IsTrue}
 use Rattle.rpm_pkgdb.proofs.Changing.{done, writes_none}
 use Rattle.rpm_pkgdb.proofs.FreedLaws.{freed_none}
@@ -10,8 +10,8 @@ returns-in-None-clause-images g c = λ told quiet.
     let D = g.D.Disk in
     let v = c.args.self.now in
     let d = c.args.disk.now in
-    let P = StandsStill v (D.files d).pkg in
-    started D d (Stops Pkg P (D.left_since d (D.moment d)))
+    let P = RepresentsBlobs v (D.files d).pkg in
+    started D d (IsTornOnly Pkg P (D.left_since d (D.moment d)))
     (λ image here. record {
       from = image;
       was = here;

@@ -1,8 +1,8 @@
 use Rattle.std.proofs.Common.{◌≡◌, ℕ, ◌+◌, ◌*◌, ◌≤◌, List, length, None, Some, refl, sym, ap, ◌∙◌, subst, arith, IsTrue}
-use Rattle.rpm_pkgdb.proofs.Vocabulary.{BeforeOrAfter, CanGrow, CanGrowFrom, CanMoveAll, end_of, IsKept, IsMovable, IsPageAdded, KeepsBlank, move_at}
-use Rattle.rpm_pkgdb.proofs.Vocabulary.{MovesWithin, moving_cost, next_end, Slot, slot_at, StandsStill, Store, with_moves, with_page}
+use Rattle.rpm_pkgdb.proofs.Vocabulary.{StoreBeforeOrAfter, CanGrow, CanGrowFrom, CanMoveAll, end_of, IsKept, IsMovable, IsPageAdded, KeepsBlank, move_at}
+use Rattle.rpm_pkgdb.proofs.Vocabulary.{MovesWithin, moving_cost, next_end, Slot, slot_at, RepresentsBlobs, Store, with_moves, with_page}
 use Rattle.rpm_pkgdb.proofs.FreedLaws.{freed_page}
-use Rattle.rpm_pkgdb.proofs.Changing.{map_ok, stops_weaker, writes_then, writes_weaker, writes_failed, stops_next}
+use Rattle.rpm_pkgdb.proofs.Changing.{map_ok, crashes_weaker, writes_then, writes_weaker, writes_failed, crashes_next}
 use Rattle.rpm_pkgdb.proofs.GrowLaws.{grown_map}
 use Rattle.rpm_pkgdb.proofs.GrowSteps.{movable, moved_within}
 use Rattle.rpm_pkgdb.proofs.LeftLaws.{still_then, grows_to}
@@ -62,11 +62,11 @@ returns-clause-images g c = λ told quiet.
     let d = c.args.disk.now in
     let F0 = (D.files d).pkg in
     let F1 = (D.files c.move_all.new.disk).pkg in
-    let P = StandsStill v F0 in
+    let P = RepresentsBlobs v F0 in
     let m = c.in_ok-move_all.ensures.moved told in
     let before = c.requires.keeps told in
-    stops_next g.D.Disk told P c.move_all.ensures.writes (c.move_all.ensures.images told v all quiet)
-    (stops_weaker D (BeforeOrAfter mid (with_page mid) F1) P c.move_all.new.disk c.add_page.new.disk
+    crashes_next g.D.Disk told P c.move_all.ensures.writes (c.move_all.ensures.images told v all quiet)
+    (crashes_weaker D (StoreBeforeOrAfter mid (with_page mid) F1) P c.move_all.new.disk c.add_page.new.disk
     (λ image w. still_then v mid F0 F1 image refl refl (m.blobs_are v all before) (m.others v all before)
     (grows_to mid can F1 (m.keeps v all before) image w))
     (c.add_page.ensures.images told mid from (m.quiet v all quiet)))

@@ -1,5 +1,5 @@
 use Rattle.std.proofs.Common.{◌≡◌, ◌-◌, ◌≤◌, List, false, sym, ap, subst, arith, set}
-use Rattle.rpm_pkgdb.proofs.Vocabulary.{AreUsedTo, HasUsed, IsFreeIn, IsKept, IsTarget, Remembers, Slot, slot_at, slot_for, Store}
+use Rattle.rpm_pkgdb.proofs.Vocabulary.{AreUsedTo, HasUsed, IsFreeIn, IsKept, IsTarget, HasRange, Slot, slot_at, slot_for, Store}
 use Rattle.rpm_pkgdb.proofs.Noted.{above_all, fits_free, has_old_start, says, noted_kept, noted_used, noted_taken}
 use Rattle.rpm_pkgdb.proofs.store.PkgDb.note_put.Goals as goal
 
@@ -28,7 +28,7 @@ forget_slot-requires c =
     let made = subst (λ (v : Store). 1 ≤ v.pages) (sym c.self.view_is) c.requires.made in
     let held = subst (λ (v : Store). target.is_new ≡ false → c.args.old ≡ slot_at v.slots target.place) (sym c.self.view_is) c.requires.old.held in
     has_old_start i.numbers.pairs _ target is made c.self.invariant.kept c.args.old c.requires.old.new held i.used c.remember.new.used i.spare
-    c.self.invariant.used (subst (λ (t : Slot). Remembers t i.used c.remember.new.used) c.slot-slot.ensures c.remember.ensures)
+    c.self.invariant.used (subst (λ (t : Slot). HasRange t i.used c.remember.new.used) c.slot-slot.ensures c.remember.ensures)
 
 pub invariant_of-self : goal.invariant_of-self
 invariant_of-self c =
@@ -49,7 +49,7 @@ invariant_of-self c =
       used = subst (HasUsed c.forget_slot.new.used (i.spare - 1)) (sym after)
           (noted_used i.numbers.pairs _ target is made c.self.invariant.kept c.args.old c.requires.old.new held i.used c.remember.new.used
           c.forget_slot.new.used
-          i.spare c.self.invariant.used (subst (λ (t : Slot). Remembers t i.used c.remember.new.used) c.slot-slot.ensures c.remember.ensures)
+          i.spare c.self.invariant.used (subst (λ (t : Slot). HasRange t i.used c.remember.new.used) c.slot-slot.ensures c.remember.ensures)
           c.forget_slot.ensures);
       room = omega (arith, c.self.invariant.room, c.note_number.ensures.room);
       one = omega (arith, c.self.invariant.one);

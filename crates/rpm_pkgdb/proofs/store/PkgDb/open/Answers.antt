@@ -1,5 +1,5 @@
 use Rattle.std.proofs.Common.{◌≡◌, Result, Err, sym, ap, subst, ◌∙◌, arith, IsTrue}
-use Rattle.rpm_pkgdb.proofs.Vocabulary.{Damage, Files, OpenIs, Pkg, read_same, Reads, Store, store, store_of, unit_at, word}
+use Rattle.rpm_pkgdb.proofs.Vocabulary.{Damage, Files, OpenIs, Pkg, read_same, ReadsOnly, Store, store, store_of_pages, unit_at, word}
 use Rattle.rpm_pkgdb.proofs.Changing.{reads_then, reads_or_then}
 use Rattle.rpm_pkgdb.proofs.Kept.{lawful}
 use Rattle.rpm_pkgdb.proofs.Opens.{store_empty, store_blank, store_damaged, store_made, ok_keeps, blank_opens, blank_keeps, opening_cost_least, opening_cost_made}
@@ -36,12 +36,12 @@ returns-clause-store g c = λ told.
     store_made file c.in_ok-units.units c.in_ok-head.head (c.in_ok-units.ensures.length told) head (sym c.if-is_zeros.ensures)
     (sym c.in_default.ensures) in
     subst (λ (r : Result Store Damage). OpenIs r c.read_made.result) (sym is)
-    (subst (λ (f : Files). OpenIs (store_of (word 3 c.in_ok-head.head) f.pkg) c.read_made.result) (after ∙ same) (c.read_made.ensures.store told))
+    (subst (λ (f : Files). OpenIs (store_of_pages (word 3 c.in_ok-head.head) f.pkg) c.read_made.result) (after ∙ same) (c.read_made.ensures.store told))
 
 pub returns-clause-reads : goal.returns-clause-reads
 returns-clause-reads g c =
     let l = lawful c.in_ok-units.units c.in_ok-head.head (sym c.in_default.ensures) in
-    let asked : Reads g.D.Disk Pkg 0 c.len.result c.args.disk.now c.len.new.self = record {
+    let asked : ReadsOnly g.D.Disk Pkg 0 c.len.result c.args.disk.now c.len.new.self = record {
       looks = record {
         untouched = c.in_ok-units.ensures.untouched;
         moment_stays = c.in_ok-units.ensures.moment;

@@ -1,12 +1,12 @@
 use Rattle.std.proofs.Common.{◌≡◌, ℕ, ◌≤◌, Option, ap, sym, ◌∙◌, subst, arith, Err, is_none}
-use Rattle.rpm_pkgdb.proofs.Vocabulary.{IsKept, placed, placed_spare, Store, StoreFull, with_spare}
+use Rattle.rpm_pkgdb.proofs.Vocabulary.{IsKept, placement, placed_spare, Store, StoreFull, with_spare}
 use Rattle.rpm_pkgdb.proofs.PlacedRules.{plan_placed, full_placed}
 use Rattle.rpm_pkgdb.proofs.FullLaws.{not_full, same_full}
 use Rattle.rpm_pkgdb.proofs.store.PkgDb.plan.Goals as goal
 
 module _ (old mid : Store) (same : mid ≡ with_spare mid.spare old) (n : Option ℕ) (size : ℕ) where
-  no_other : placed n size old ≡ placed n size mid
-  no_other = sym (placed_spare n size mid.spare old) ∙ ap (placed n size) (sym same)
+  no_other : placement n size old ≡ placement n size mid
+  no_other = sym (placed_spare n size mid.spare old) ∙ ap (placement n size) (sym same)
 
 pub returns-in-Ok-clause-planned : goal.returns-in-Ok-clause-planned
 returns-in-Ok-clause-planned c =

@@ -1,5 +1,5 @@
 use Rattle.std.proofs.Common.{◌≡◌, ap, subst, Err, ◌∙◌, length, true}
-use Rattle.rpm_pkgdb.proofs.Vocabulary.{IsFull, IsKept, Store, StoreFull}
+use Rattle.rpm_pkgdb.proofs.Vocabulary.{IsStoreFull, IsKept, Store, StoreFull}
 use Rattle.rpm_pkgdb.proofs.Changing.{err_given}
 use Rattle.rpm_pkgdb.proofs.PlanEnds.{behind_plan, behind_full, stuck_full}
 use Rattle.rpm_pkgdb.proofs.store.PkgDb.plan_behind.Goals as goal
@@ -7,7 +7,7 @@ use Rattle.rpm_pkgdb.proofs.store.PkgDb.plan_behind.Goals as goal
 pub returns-in_err-page-clause-full : goal.returns-in_err-page-clause-full
 returns-in_err-page-clause-full c =
     let st = c.args.self.now in
-    err_given (λ r. r ≡ Err StoreFull → IsFull st true c.args.length) _ c.from_residual.result c.from_residual.ensures (λ full.
+    err_given (λ r. r ≡ Err StoreFull → IsStoreFull st true c.args.length) _ c.from_residual.result c.from_residual.ensures (λ full.
     let fault : c.in_err-page.field-0.0 ≡ StoreFull = cc in
     stuck_full st c.args.length c.requires.all (c.in_err-page.ensures.full (ap Err fault)))
 

@@ -1,5 +1,5 @@
 use Rattle.std.proofs.Common.{◌≡◌, ℕ, Some, sym, ap, subst, ◌∙◌}
-use Rattle.rpm_pkgdb.proofs.Vocabulary.{IsKept, IsPut, option_map, Placement, put_in, replaced_by, Store, with_blob, with_placed, with_plan, with_spare}
+use Rattle.rpm_pkgdb.proofs.Vocabulary.{IsKept, IsPut, option_map, Placement, put_in, replaced_by, Store, with_put, with_placed, with_plan, with_spare}
 use Rattle.rpm_pkgdb.proofs.PlacedRules.{own_placed}
 use Rattle.rpm_pkgdb.proofs.Written.{put_spare}
 use Rattle.rpm_pkgdb.proofs.store.PkgDb.put.Goals as goal
@@ -14,7 +14,7 @@ returns-clause-put g c = λ told.
     let a = c.args.disk.now in
     let b = c.write_plan.new.disk in
     let same : new ≡ with_spare new.spare (with_plan plan st) =
-    c.note_put.ensures.value ∙ ap (λ (v : Store). with_spare new.spare (with_blob plan.target v)) c.note_page.ensures in
+    c.note_put.ensures.value ∙ ap (λ (v : Store). with_spare new.spare (with_put plan.target v)) c.note_page.ensures in
     subst (λ (v : Store). IsPut D a b st v plan.target blob) (sym same)
     (put_spare D a b st (with_plan plan st) new.spare plan.target blob (c.in-Ok.ensures.put told))
 
@@ -25,7 +25,7 @@ returns-clause-value g c =
     let new = c.note_put.new.self in
     let kept = subst (λ (x : Store). IsKept c.self.inside.numbers.pairs x.pages x.slots) c.self.view_is c.self.invariant.kept in
     let same : new ≡ with_spare new.spare (with_plan plan st) =
-    c.note_put.ensures.value ∙ ap (λ (v : Store). with_spare new.spare (with_blob plan.target v)) c.note_page.ensures in
+    c.note_put.ensures.value ∙ ap (λ (v : Store). with_spare new.spare (with_put plan.target v)) c.note_page.ensures in
     record {
       ok = same;
       placed =

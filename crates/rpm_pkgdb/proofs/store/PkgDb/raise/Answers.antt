@@ -2,7 +2,7 @@ use Rattle.std.proofs.Common.{ℕ, List, ◌+◌, [], ◌∷◌, length, sym, ap
 use Rattle.rpm_pkgdb.proofs.Vocabulary.{blobs, IsHeadUnit, IsRaised, RaisesTo, SameOutside, Store, with_generation}
 use Rattle.rpm_pkgdb.proofs.ClearLaws.{torn_outside}
 use Rattle.rpm_pkgdb.proofs.StayLaws.{raised_stay}
-use Rattle.rpm_pkgdb.proofs.Changing.{writes_weaker, stops_while}
+use Rattle.rpm_pkgdb.proofs.Changing.{writes_weaker, crashes_while}
 use Rattle.rpm_pkgdb.proofs.Made.{made}
 use Rattle.rpm_pkgdb.proofs.Reaching.{unit_ends}
 use Rattle.rpm_pkgdb.proofs.Raises.{while_raised, raised, raised_map, raises_to, raised_quiet}
@@ -22,7 +22,7 @@ returns-in_default-clause-images g c = λ told quiet.
     let unit = c.head_unit.result in
     let is = subst (IsHigher unit) c.self.view_is c.head_unit.ensures in
     let F0 = (D.files c.args.disk.now).pkg in
-    stops_while g.D.Disk told (RaisesTo st (st.generation + 1) F0) c.write_one.ensures.writes
+    crashes_while g.D.Disk told (RaisesTo st (st.generation + 1) F0) c.write_one.ensures.writes
     (λ from image was torn. raises_to st c.requires.ready.made unit (st.generation + 1) is F0 image.pkg (c.requires.ready.keeps told)
     (while_raised st c.requires.ready.made unit (st.generation + 1) is F0 from.pkg image.pkg (quiet from was) torn))
 
@@ -33,7 +33,7 @@ returns-clause-images g c = λ told quiet.
     let unit = c.head_unit.result in
     let is = subst (IsHigher unit) c.self.view_is c.head_unit.ensures in
     let F0 = (D.files c.args.disk.now).pkg in
-    stops_while g.D.Disk told (RaisesTo st (st.generation + 1) F0) c.write_one.ensures.writes
+    crashes_while g.D.Disk told (RaisesTo st (st.generation + 1) F0) c.write_one.ensures.writes
     (λ from image was torn. raises_to st c.requires.ready.made unit (st.generation + 1) is F0 image.pkg (c.requires.ready.keeps told)
     (while_raised st c.requires.ready.made unit (st.generation + 1) is F0 from.pkg image.pkg (quiet from was) torn))
 
@@ -72,7 +72,7 @@ returns-clause-raised g c = λ told.
       written =
           written D next (higher st) (blobs F0 st) some stands.keeps
           (raised_quiet st some unit (st.generation + 1) is (D.files a) (D.files next) (D.left_since next (D.moment next)) keeps put
-          (c.in-Ok.ensures.settled told))
+          (c.in-Ok.ensures.durable told))
           (raised_map st some unit (st.generation + 1) is F0 F1 keeps stands);
       others = raised_stay st (st.generation + 1) F0 F1 some keeps stands;
       reach = unit_ends (length F0) 0 unit F0 F1 (omega (arith, at.lawful.inside, at.lawful.some)) put (omega arith);

@@ -1,8 +1,8 @@
 use Rattle.std.proofs.Common.{◌≡◌, true, inl, ℕ, ◌≤◌, ◌+◌, length, max, Bool, if◌then◌else◌, Option, Some, None, IfSome, IsTrue, sym, ap, ◌∙◌, subst, arith}
 use Rattle.std.specs.FinMap as finite
 use Rattle.rpm_pkgdb.proofs.Vocabulary.{BlobMap, blobs, blocks_for, framed, IsBlobPut, IsKept, KeepsBlank, moves_of, next_field, next_unit, PutsTo}
-use Rattle.rpm_pkgdb.proofs.Vocabulary.{StandsStill, StaysBut, Store, store_end, unit_at, Units, units_of, WhilePut, with_plan}
-use Rattle.rpm_pkgdb.proofs.Changing.{map_ok, stops_weaker, writes_then, stops_next}
+use Rattle.rpm_pkgdb.proofs.Vocabulary.{RepresentsBlobs, StaysBut, Store, store_end, unit_at, Units, units_of, WhilePut, with_plan}
+use Rattle.rpm_pkgdb.proofs.Changing.{map_ok, crashes_weaker, writes_then, crashes_next}
 use Rattle.rpm_pkgdb.proofs.FramingLaws.{count-framed}
 use Rattle.rpm_pkgdb.proofs.PlannedLaws.{may_grow, none_for}
 use Rattle.rpm_pkgdb.proofs.PutEnds.{whole_part, replaced_zeros}
@@ -39,8 +39,8 @@ put_blob-requires g c =
       end = c.requires.old.end;
     }
 
-pub returns-in_err-grow-clause-stops : goal.returns-in_err-grow-clause-stops
-returns-in_err-grow-clause-stops g c = λ told quiet.
+pub returns-in_err-grow-clause-crashes : goal.returns-in_err-grow-clause-crashes
+returns-in_err-grow-clause-crashes g c = λ told quiet.
     let D = g.D.Disk in
     let v = c.args.self.now in
     let n = c.args.plan.now.target.number in
@@ -50,13 +50,13 @@ returns-in_err-grow-clause-stops g c = λ told quiet.
     let still = c.grow.ensures.images told quiet in
     record {
       images =
-          stops_weaker D (StandsStill v F0) (PutsTo v c.args.plan.now.target c.args.blob.now F0) d c.grow.new.disk
+          crashes_weaker D (RepresentsBlobs v F0) (PutsTo v c.args.plan.now.target c.args.blob.now F0) d c.grow.new.disk
           (λ image s. inl s.stands) still;
-      left = stops_weaker D (StandsStill v F0) (StaysBut n these v F0) d c.grow.new.disk (still_but n these v F0) still;
+      left = crashes_weaker D (RepresentsBlobs v F0) (StaysBut n these v F0) d c.grow.new.disk (still_but n these v F0) still;
     }
 
-pub returns-clause-stops : goal.returns-clause-stops
-returns-clause-stops g c = λ told quiet.
+pub returns-clause-crashes : goal.returns-clause-crashes
+returns-clause-crashes g c = λ told quiet.
     let D = g.D.Disk in
     let v = c.args.self.now in
     let plan = c.args.plan.now in
@@ -81,15 +81,15 @@ returns-clause-stops g c = λ told quiet.
     let B = StaysBut n these v F0 in
     record {
       images =
-          stops_next g.D.Disk told P c.grow.ensures.writes
-          (stops_weaker D (StandsStill v F0) P a b (λ image s. inl s.stands) still)
-          (stops_weaker D (WhilePut mid plan.target gen blob F1) P b e
+          crashes_next g.D.Disk told P c.grow.ensures.writes
+          (crashes_weaker D (RepresentsBlobs v F0) P a b (λ image s. inl s.stands) still)
+          (crashes_weaker D (WhilePut mid plan.target gen blob F1) P b e
           (λ image w. puts_from v plan is c.requires.made blob c.requires.length F0 F1 image page.blobs_are
           (puts_to mid plan.target gen old blob can F1 image page.kept w)) second);
       left =
-          stops_next g.D.Disk told B c.grow.ensures.writes
-          (stops_weaker D (StandsStill v F0) B a b (still_but n these v F0) still)
-          (stops_weaker D (WhilePut mid plan.target gen blob F1) B b e
+          crashes_next g.D.Disk told B c.grow.ensures.writes
+          (crashes_weaker D (RepresentsBlobs v F0) B a b (still_but n these v F0) still)
+          (crashes_weaker D (WhilePut mid plan.target gen blob F1) B b e
           (λ image w. subst (λ (g : ℕ). StaysBut n (Some (units_of (framed n g blob))) v F0 image) gen_is
           (puts_but v F0 mid plan.target gen old blob can F1 page.kept page.others image w)) second);
     }

@@ -1,5 +1,5 @@
 use Rattle.std.proofs.Common.{◌≡◌, ℕ, List, length, true, false, sym, subst, ◌∙◌}
-use Rattle.rpm_pkgdb.proofs.Vocabulary.{Adds, get, HasPlaces, HasRanges, is_used, nat_cmp, Slot}
+use Rattle.rpm_pkgdb.proofs.Vocabulary.{MapWithOne, get, HasPlaces, HasRanges, is_used, nat_cmp, Slot}
 use Rattle.rpm_pkgdb.proofs.Known.{places_push, places_push_free, ranges_push, ranges_push_free, AreNumbered, numbered_push}
 use Rattle.rpm_pkgdb.proofs.Sound.{fresh_blocks, fresh_number, is_free, is_taken}
 use Rattle.rpm_pkgdb.proofs.table.Opening.push.Goals as goal
@@ -32,8 +32,8 @@ returns-clause-known c =
     let numbers_after : ℕ → _ = λ (q : ℕ). get nat_cmp c.put.new.map q in
     let ranges_after : ℕ → _ = λ (q : ℕ). get nat_cmp c.put-2.new.map q in
     let place : c.len.result ≡ length o.slots.items = c.len.ensures ∙ o.slots.ok.0 in
-    let added : Adds numbers numbers_after slot.number (length o.slots.items) =
-    subst (λ (k : ℕ). Adds numbers numbers_after slot.number k) place c.in_ok-put.ensures in
+    let added : MapWithOne numbers numbers_after slot.number (length o.slots.items) =
+    subst (λ (k : ℕ). MapWithOne numbers numbers_after slot.number k) place c.in_ok-put.ensures in
     record {
       places =
           subst (λ (xs : List Slot). HasPlaces numbers_after xs) (sym c.in_ok-push-2.ensures.items)

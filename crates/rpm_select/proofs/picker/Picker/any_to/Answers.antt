@@ -1,6 +1,6 @@
 mod Reading
-use Rattle.rpm_select.proofs.Vocabulary.{cost, cost_more, cost_to, cost_up, Files, looks_more, looks_none, looks_then, OneOf, packages, Pkg, Reach}
-use Rattle.rpm_select.proofs.Vocabulary.{reach_more, reach_of, room, Serves}
+use Rattle.rpm_select.proofs.Vocabulary.{package_cost, cost_more, packages_cost_to, cost_up, Files, looks_more, looks_none, looks_then, OneOf, packages, Pkg, Reach}
+use Rattle.rpm_select.proofs.Vocabulary.{reach_more, reach_of, store_of, Serves}
 use Rattle.std.proofs.Common.{None, Ok, refl, sym, ap, subst, ◌∙◌, arith}
 use Rattle.std.specs.FinMap as finite
 use Rattle.rpm_select.proofs.Owning.{own_then}
@@ -16,7 +16,7 @@ loop-next-init g c = record {
   within = cost_up c.args.db.now 0 c.args.n (omega arith);
   looks =
       looks_more g.D.Disk Pkg 0
-      (cost_to 0 c.args.db.now) c.args.disk.now c.args.disk.now (omega arith)
+      (packages_cost_to 0 c.args.db.now) c.args.disk.now c.args.disk.now (omega arith)
       (looks_none g.D.Disk Pkg g.met.D.Disk.follows_refl
       c.args.disk.now);
   own = λ m is. omega arith;
@@ -32,8 +32,8 @@ returns-then-next-n-clause-told g c = λ told serves.
     let sel = c.args.selection.now in
     let n = c.args.n in
     let inv = c.loop-next.invariant in
-    let all = subst (λ (x : Reach). Serves x (packages file (room db)) sel) (sym c.self.view_is) serves in
-    sym (ap (any_to n) (above_picks (packages file (room db)) sel 0 ∙ inv.same told all)
+    let all = subst (λ (x : Reach). Serves x (packages file (store_of db)) sel) (sym c.self.view_is) serves in
+    sym (ap (any_to n) (above_picks (packages file (store_of db)) sel 0 ∙ inv.same told all)
     ∙ none_to (reach_of c.self.inside.reach) file db sel all n c.loop-next.passed c.in-Some.next c.in-Some.ensures inv.below c.if-next-n.true)
 
 pub returns-in-Ok-Some-clause-told : goal.returns-in-Ok-Some-clause-told
@@ -45,11 +45,11 @@ returns-in-Ok-Some-clause-told g c = λ told serves.
     let k = c.loop-next.passed in
     let m = c.in-Some.next in
     let inv = c.loop-next.invariant in
-    let said = subst (λ (f : Files). OneOf sel m (finite.get (packages f.pkg (room db)) m) (Ok c.in-Ok-Some.field-0)) (inv.looks.untouched told).same
+    let said = subst (λ (f : Files). OneOf sel m (finite.get (packages f.pkg (store_of db)) m) (Ok c.in-Ok-Some.field-0)) (inv.looks.untouched told).same
     (c.in-Ok-Some.ensures.told told) in
-    let all = subst (λ (x : Reach). Serves x (packages file (room db)) sel) (sym c.self.view_is) serves in
-    let found = found_one (packages file (room db)) sel m _ (rw c.in-Ok-Some.field-0-is at said) in
-    sym (ap (any_to n) (above_picks (packages file (room db)) sel 0 ∙ inv.same told all)
+    let all = subst (λ (x : Reach). Serves x (packages file (store_of db)) sel) (sym c.self.view_is) serves in
+    let found = found_one (packages file (store_of db)) sel m _ (rw c.in-Ok-Some.field-0-is at said) in
+    sym (ap (any_to n) (above_picks (packages file (store_of db)) sel 0 ∙ inv.same told all)
     ∙ one_to (reach_of c.self.inside.reach) file db sel all n k m _ c.in-Some.ensures found c.if-next-n.false)
 
 pub returns-in-Ok-Some-clause-asks : goal.returns-in-Ok-Some-clause-asks
@@ -79,7 +79,7 @@ loop-next-preserved-in-Ok-None-3 g c =
       within = cost_up db m c.args.n c.if-next-n.false;
       looks =
           looks_then g.D.Disk Pkg g.met.D.Disk.follows_trans
-          (cost_to k db) (cost m db) (cost_to m db) c.args.disk.now c.loop-next.disk c.pick.new.disk more inv.looks done.asks.looks;
+          (packages_cost_to k db) (package_cost m db) (packages_cost_to m db) c.args.disk.now c.loop-next.disk c.pick.new.disk more inv.looks done.asks.looks;
       own =
           own_then c.args.selection.now db k m (g.D.Disk.bytes_read c.args.disk.now Pkg) (g.D.Disk.bytes_read c.loop-next.disk Pkg)
           (g.D.Disk.bytes_read c.pick.new.disk Pkg) c.in-Some.ensures.0
@@ -89,7 +89,7 @@ loop-next-preserved-in-Ok-None-3 g c =
       same = λ told serves.
           let sel = c.args.selection.now in
           let file = (g.D.Disk.files c.args.disk.now).pkg in
-          let one = subst (λ (f : Files). OneOf sel m (finite.get (packages f.pkg (room db)) m) (Ok None)) (inv.looks.untouched told).same
+          let one = subst (λ (f : Files). OneOf sel m (finite.get (packages f.pkg (store_of db)) m) (Ok None)) (inv.looks.untouched told).same
           (rw c.in-Ok-None.field-0-is at (done.told told)) in
           inv.same told serves ∙ passed_next r file db sel serves k m c.in-Some.ensures one;
     }
@@ -98,8 +98,8 @@ pub returns-clause-told : goal.returns-clause-told
 returns-clause-told g c = λ told serves.
     let file = (g.D.Disk.files c.args.disk.now).pkg in
     let db = c.args.db.now in
-    let all = subst (λ (x : Reach). Serves x (packages file (room db)) c.args.selection.now) (sym c.self.view_is) serves in
-    sym (ap (any_to c.args.n) (above_picks (packages file (room db)) c.args.selection.now 0 ∙ c.loop-next.invariant.same told all
+    let all = subst (λ (x : Reach). Serves x (packages file (store_of db)) c.args.selection.now) (sym c.self.view_is) serves in
+    sym (ap (any_to c.args.n) (above_picks (packages file (store_of db)) c.args.selection.now 0 ∙ c.loop-next.invariant.same told all
     ∙ none_next (reach_of c.self.inside.reach) file db c.args.selection.now all c.loop-next.passed c.in_default.ensures))
 
 pub returns-clause-reads : goal.returns-clause-reads

@@ -1,4 +1,4 @@
-use Rattle.rpm_select.proofs.Vocabulary.{cost_to, Keeps, Looks, packages, Pkg, reach_to, room, Serves}
+use Rattle.rpm_select.proofs.Vocabulary.{packages_cost_to, Keeps, OnlyReads, packages, Pkg, reach_to, store_of, Serves}
 use Rattle.std.proofs.Common.{◌≡◌, ◌≤◌, ◌+◌, ◌^◌, ◌-◌}
 use Rattle.std.specs.Prelude.{IsTrue}
 use Rattle.rpm_select.proofs.Owning.{ReadsOwnTo}
@@ -9,15 +9,15 @@ abbrev pub invariant-loop-next : goal.invariant-loop-next
 invariant-loop-next g l = record {
   keeps : IsTrue g.D.Disk.tells → Keeps (g.D.Disk.files l.disk).pkg l.db;
   below : l.passed ≤ l.n;
-  within : cost_to l.passed l.db ≤ cost_to l.n l.db;
-  looks : Looks g.D.Disk Pkg
-      (cost_to l.passed l.db) l.initial.disk l.disk;
+  within : packages_cost_to l.passed l.db ≤ packages_cost_to l.n l.db;
+  looks : OnlyReads g.D.Disk Pkg
+      (packages_cost_to l.passed l.db) l.initial.disk l.disk;
   own : ReadsOwnTo l.passed l.selection l.db (g.D.Disk.bytes_read l.initial.disk Pkg) (g.D.Disk.bytes_read l.disk Pkg);
   reads : g.D.Disk.bytes_read l.disk Pkg ≤ g.D.Disk.bytes_read l.initial.disk Pkg + reach_to l.passed l.self l.db;
   faults : g.D.Disk.faults l.initial.disk ≤ g.D.Disk.faults l.disk;
-  same : IsTrue g.D.Disk.tells → Serves l.self (packages (g.D.Disk.files l.initial.disk).pkg (room l.db)) l.selection
-      → left (packages (g.D.Disk.files l.initial.disk).pkg (room l.db)) l.selection 0
-      ≡ left (packages (g.D.Disk.files l.initial.disk).pkg (room l.db)) l.selection l.passed;
+  same : IsTrue g.D.Disk.tells → Serves l.self (packages (g.D.Disk.files l.initial.disk).pkg (store_of l.db)) l.selection
+      → left (packages (g.D.Disk.files l.initial.disk).pkg (store_of l.db)) l.selection 0
+      ≡ left (packages (g.D.Disk.files l.initial.disk).pkg (store_of l.db)) l.selection l.passed;
 }
 
 abbrev pub decreases-loop-next : goal.decreases-loop-next

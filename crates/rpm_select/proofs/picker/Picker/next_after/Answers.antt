@@ -1,5 +1,5 @@
 mod Reading
-use Rattle.rpm_select.proofs.Vocabulary.{cost, cost_more, cost_to, Files, looks_then, OneOf, packages, Pkg, Reach, reach_more, reach_of, room, Serves}
+use Rattle.rpm_select.proofs.Vocabulary.{package_cost, cost_more, packages_cost_to, Files, looks_then, OneOf, packages, Pkg, Reach, reach_more, reach_of, store_of, Serves}
 use Rattle.std.proofs.Common.{◌-◌, Some, None, Ok, sym, subst, ◌∙◌, arith}
 use Rattle.std.specs.FinMap as finite
 use Rattle.rpm_select.proofs.Owning.{own_then}
@@ -25,7 +25,8 @@ loop-next-preserved g c =
       more = omega (arith, more, inv.more);
       looks =
           looks_then g.D.Disk Pkg g.met.D.Disk.follows_trans
-          (cost_to k db - cost_to n db) (cost m db) (cost_to m db - cost_to n db) c.args.disk.now c.loop-next.disk c.pick.new.disk
+          (packages_cost_to k db - packages_cost_to n db) (package_cost m db)
+          (packages_cost_to m db - packages_cost_to n db) c.args.disk.now c.loop-next.disk c.pick.new.disk
           (omega (arith, more, inv.more)) inv.looks done.asks.looks;
       own =
           own_then c.args.selection.now db k m (g.D.Disk.bytes_read c.args.disk.now Pkg) (g.D.Disk.bytes_read c.loop-next.disk Pkg)
@@ -36,7 +37,7 @@ loop-next-preserved g c =
       faults = omega (arith, inv.faults, done.asks.cause.later);
       same = λ told serves.
           let file = (g.D.Disk.files c.args.disk.now).pkg in
-          let one = subst (λ (f : Files). OneOf sel m (finite.get (packages f.pkg (room db)) m) (Ok None)) (inv.looks.untouched told).same
+          let one = subst (λ (f : Files). OneOf sel m (finite.get (packages f.pkg (store_of db)) m) (Ok None)) (inv.looks.untouched told).same
           (rw c.in-Ok-None.field-0-is at (done.told told)) in
           inv.same told serves ∙ passed_next r file db sel serves k m c.in-Some.ensures one;
     }
@@ -49,12 +50,12 @@ returns-in-Ok-Some-clause-told g c = λ told serves.
     let sel = c.args.selection.now in
     let inv = c.loop-next.invariant in
     let file = (g.D.Disk.files c.args.disk.now).pkg in
-    let all = subst (λ (x : Reach). Serves x (packages file (room db)) sel) (sym c.self.view_is) serves in
-    let one = subst (λ (f : Files). OneOf sel m (finite.get (packages f.pkg (room db)) m) (Ok (Some c.in-Ok-Some.picked))) (inv.looks.untouched told).same
+    let all = subst (λ (x : Reach). Serves x (packages file (store_of db)) sel) (sym c.self.view_is) serves in
+    let one = subst (λ (f : Files). OneOf sel m (finite.get (packages f.pkg (store_of db)) m) (Ok (Some c.in-Ok-Some.picked))) (inv.looks.untouched told).same
     (rw c.in-Ok-Some.field-0-is at (c.in-Ok-Some.ensures.told told)) in
-    let found = found_one (packages file (room db)) sel m c.in-Ok-Some.picked one in (
-      left (packages file (room db)) sel m,
-      above_picks (packages file (room db)) sel c.args.n ∙ inv.same told all
+    let found = found_one (packages file (store_of db)) sel m c.in-Ok-Some.picked one in (
+      left (packages file (store_of db)) sel m,
+      above_picks (packages file (store_of db)) sel c.args.n ∙ inv.same told all
           ∙ picked_next (reach_of c.self.inside.reach) file db sel all k m c.in-Ok-Some.picked c.in-Some.ensures found,
     )
 
@@ -68,8 +69,8 @@ pub returns-clause-told : goal.returns-clause-told
 returns-clause-told g c = λ told serves.
     let file = (g.D.Disk.files c.args.disk.now).pkg in
     let db = c.args.db.now in
-    let all = subst (λ (x : Reach). Serves x (packages file (room db)) c.args.selection.now) (sym c.self.view_is) serves in
-    above_picks (packages file (room db)) c.args.selection.now c.args.n ∙ c.loop-next.invariant.same told all
+    let all = subst (λ (x : Reach). Serves x (packages file (store_of db)) c.args.selection.now) (sym c.self.view_is) serves in
+    above_picks (packages file (store_of db)) c.args.selection.now c.args.n ∙ c.loop-next.invariant.same told all
     ∙ none_next (reach_of c.self.inside.reach) file db c.args.selection.now all c.loop-next.passed c.in_default.ensures
 
 pub returns-clause-reads : goal.returns-clause-reads

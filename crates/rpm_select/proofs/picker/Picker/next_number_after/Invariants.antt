@@ -1,4 +1,4 @@
-use Rattle.rpm_select.proofs.Vocabulary.{cost_to, Keeps, Looks, packages, Pkg, reach_to, reaches, Recalls, room, Serves}
+use Rattle.rpm_select.proofs.Vocabulary.{packages_cost_to, Keeps, OnlyReads, packages, Pkg, reach_to, reaches, Recalls, store_of, Serves}
 use Rattle.std.proofs.Common.{◌≡◌, ◌<◌, ◌≤◌, ◌+◌, ◌-◌, ◌^◌, true}
 use Rattle.std.specs.Prelude.{IsTrue}
 use Rattle.rpm_select.proofs.Picking.{left}
@@ -9,19 +9,19 @@ invariant-loop-next g l = record {
   keeps : IsTrue g.D.Disk.tells → Keeps (g.D.Disk.files l.disk).pkg l.db;
   later : l.n ≤ l.passed;
   up : reach_to l.n l.self l.db ≤ reach_to l.passed l.self l.db;
-  more : cost_to l.n l.db ≤ cost_to l.passed l.db;
-  within : g.D.Disk.bytes_read l.disk Pkg ≤ g.D.Disk.bytes_read l.initial.disk Pkg + (cost_to l.passed l.db - cost_to l.n l.db);
-  looks : Looks g.D.Disk Pkg
+  more : packages_cost_to l.n l.db ≤ packages_cost_to l.passed l.db;
+  within : g.D.Disk.bytes_read l.disk Pkg ≤ g.D.Disk.bytes_read l.initial.disk Pkg + (packages_cost_to l.passed l.db - packages_cost_to l.n l.db);
+  looks : OnlyReads g.D.Disk Pkg
       (reach_to l.passed l.self l.db - reach_to l.n l.self l.db) l.initial.disk l.disk;
   faults : g.D.Disk.faults l.initial.disk ≤ g.D.Disk.faults l.disk;
   start : l.passed ≡ l.n → (g.D.Disk.bytes_read l.disk Pkg ≡ g.D.Disk.bytes_read l.initial.disk Pkg) × (l.recent ≡ l.initial.recent);
   reached : l.n < l.passed → reaches l.self l.db l.passed ≡ true;
-  recalls : IsTrue g.D.Disk.tells → Recalls (packages (g.D.Disk.files l.initial.disk).pkg (room l.db)) l.initial.recent
-      → Recalls (packages (g.D.Disk.files l.initial.disk).pkg (room l.db)) l.recent;
-  same : IsTrue g.D.Disk.tells → Serves l.self (packages (g.D.Disk.files l.initial.disk).pkg (room l.db)) l.selection
-      → Recalls (packages (g.D.Disk.files l.initial.disk).pkg (room l.db)) l.initial.recent
-      → left (packages (g.D.Disk.files l.initial.disk).pkg (room l.db)) l.selection l.n
-      ≡ left (packages (g.D.Disk.files l.initial.disk).pkg (room l.db)) l.selection l.passed;
+  recalls : IsTrue g.D.Disk.tells → Recalls (packages (g.D.Disk.files l.initial.disk).pkg (store_of l.db)) l.initial.recent
+      → Recalls (packages (g.D.Disk.files l.initial.disk).pkg (store_of l.db)) l.recent;
+  same : IsTrue g.D.Disk.tells → Serves l.self (packages (g.D.Disk.files l.initial.disk).pkg (store_of l.db)) l.selection
+      → Recalls (packages (g.D.Disk.files l.initial.disk).pkg (store_of l.db)) l.initial.recent
+      → left (packages (g.D.Disk.files l.initial.disk).pkg (store_of l.db)) l.selection l.n
+      ≡ left (packages (g.D.Disk.files l.initial.disk).pkg (store_of l.db)) l.selection l.passed;
 }
 
 abbrev pub decreases-loop-next : goal.decreases-loop-next

@@ -1,6 +1,6 @@
 use Rattle.std.proofs.Common.{refl, arith}
 use Rattle.std.proofs.lemmas.List.Elements.{All-replicate}
-use Rattle.rpm_tags.proofs.Vocabulary.{IsRead}
+use Rattle.rpm_tags.proofs.Vocabulary.{IsDirectoryRead}
 use Rattle.rpm_tags.proofs.dirs.Directories.new.Goals as goal
 
 pub invariant_of-result : goal.invariant_of-result
@@ -10,6 +10,6 @@ invariant_of-result c = record {
   few = omega arith;
   all_short = c.iter.ensures.short;
   kept = refl;
-  seen = All-replicate (IsRead c.args.all.now) 16 _ (c.text.ensures.value, c.text.ensures.short);
+  seen = All-replicate (IsDirectoryRead c.args.all.now) 16 _ (c.text.ensures.value, c.text.ensures.short);
   placed = tt;
 }

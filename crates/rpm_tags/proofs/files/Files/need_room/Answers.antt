@@ -1,4 +1,4 @@
-use Rattle.std.proofs.Common.{◌≡◌, ◌<◌, ℕ, List, arith, length, ap, subst, sym, ◌∙◌}
+use Rattle.std.proofs.Common.{◌<◌, ℕ, length, ap, subst, sym, ◌∙◌}
 use Rattle.rpm_tags.proofs.Paths.{length_files, same_length}
 use Rattle.rpm_tags.proofs.files.Files.need_room.Goals as goal
 

@@ -1,6 +1,6 @@
 -- What looking for one reads.
 use Rattle.std.proofs.Common.{true, false, ap, arith}
-use Rattle.rpm_select.proofs.Vocabulary.{cost, cost_more, cost_to, cost_up, Pkg, Reach, reach_more, reach_of, reach_to, reach_up}
+use Rattle.rpm_select.proofs.Vocabulary.{package_cost, cost_more, packages_cost_to, cost_up, Pkg, Reach, reach_more, reach_of, reach_to, reach_up}
 use Rattle.rpm_select.proofs.Asks.{asks_done, asks_then, asks_failed}
 use Rattle.rpm_select.proofs.Owning.{own_last, own_all}
 use Rattle.rpm_select.proofs.picker.Picker.any_to.Goals as goal
@@ -12,7 +12,7 @@ returns-in-Ok-Some-clause-asks g c =
     let m = c.in-Some.next in
     let inv = c.loop-next.invariant in
     let up = cost_up db m c.args.n c.if-next-n.false in
-    asks_then g.D.Disk g.met.D.Disk.follows_trans (cost_to k db) (cost m db) (cost_to c.args.n db) c.args.disk.now c.loop-next.disk
+    asks_then g.D.Disk g.met.D.Disk.follows_trans (packages_cost_to k db) (package_cost m db) (packages_cost_to c.args.n db) c.args.disk.now c.loop-next.disk
     c.pick.new.disk db (omega (arith, cost_more db k m c.in-Some.ensures.0, up)) inv.looks inv.faults true c.in-Ok-Some.ensures.asks
 
 pub returns-in-Err-clause-asks : goal.returns-in-Err-clause-asks
@@ -22,21 +22,23 @@ returns-in-Err-clause-asks g c =
     let m = c.in-Some.next in
     let inv = c.loop-next.invariant in
     let up = cost_up db m c.args.n c.if-next-n.false in
-    asks_failed g.D.Disk g.met.D.Disk.follows_trans (cost_to k db) (cost m db) (cost_to c.args.n db) c.args.disk.now c.loop-next.disk
+    asks_failed g.D.Disk g.met.D.Disk.follows_trans (packages_cost_to k db) (package_cost m db) (packages_cost_to c.args.n db) c.args.disk.now c.loop-next.disk
     c.pick.new.disk db (omega (arith, cost_more db k m c.in-Some.ensures.0, up)) inv.looks inv.faults _ _ c.in-Err.fault c.in-Err.ensures.asks
 
 pub returns-then-next-n-clause-asks : goal.returns-then-next-n-clause-asks
 returns-then-next-n-clause-asks g c =
     let db = c.args.db.now in
     let inv = c.loop-next.invariant in
-    asks_done g.D.Disk (cost_to c.loop-next.passed db) (cost_to c.args.n db) c.args.disk.now c.loop-next.disk db false inv.within inv.keeps inv.looks
+    asks_done g.D.Disk (packages_cost_to c.loop-next.passed db) (packages_cost_to c.args.n db) c.args.disk.now c.loop-next.disk db false inv.within inv.keeps
+    inv.looks
     inv.faults
 
 pub returns-clause-asks : goal.returns-clause-asks
 returns-clause-asks g c =
     let db = c.args.db.now in
     let inv = c.loop-next.invariant in
-    asks_done g.D.Disk (cost_to c.loop-next.passed db) (cost_to c.args.n db) c.args.disk.now c.loop-next.disk db false inv.within inv.keeps inv.looks
+    asks_done g.D.Disk (packages_cost_to c.loop-next.passed db) (packages_cost_to c.args.n db) c.args.disk.now c.loop-next.disk db false inv.within inv.keeps
+    inv.looks
     inv.faults
 
 pub returns-clause-reads : goal.returns-clause-reads

@@ -1,6 +1,6 @@
 -- What going to the next one reads.
 use Rattle.std.proofs.Common.{◌≡◌, ℕ, ◌-◌, Some, None, Ok, sym, ap, subst, ◌∙◌, arith}
-use Rattle.rpm_select.proofs.Vocabulary.{AsksPackages, cost, cost_all, cost_more, cost_some, cost_to, number_in, Pkg, Reach, reach_all, reach_more, reach_of}
+use Rattle.rpm_select.proofs.Vocabulary.{AsksPackages, package_cost, packages_cost, cost_more, cost_some, packages_cost_to, number_in, Pkg, Reach, reach_all, reach_more, reach_of}
 use Rattle.rpm_select.proofs.Vocabulary.{reach_some, reach_to}
 use Rattle.rpm_select.proofs.Asks.{asks_done, asks_then, asks_failed}
 use Rattle.rpm_select.proofs.Owning.{own_last, own_all}
@@ -15,8 +15,9 @@ returns-in-Ok-Some-clause-asks g c =
     let inv = c.loop-next.invariant in
     let picked = c.in-Ok-Some.picked in
     let number = rw c.in-Ok-Some.field-0-is at c.in-Ok-Some.ensures.numbered in
-    subst (λ (i : ℕ). AsksPackages g.D.Disk (cost_to i db - cost_to n db) c.args.disk.now c.pick.new.disk db (Ok (Some picked))) (sym number)
-    (asks_then g.D.Disk g.met.D.Disk.follows_trans (cost_to k db - cost_to n db) (cost m db) (cost_to m db - cost_to n db) c.args.disk.now
+    subst (λ (i : ℕ). AsksPackages g.D.Disk (packages_cost_to i db - packages_cost_to n db) c.args.disk.now c.pick.new.disk db (Ok (Some picked))) (sym number)
+    (asks_then g.D.Disk g.met.D.Disk.follows_trans (packages_cost_to k db - packages_cost_to n db) (package_cost m db)
+    (packages_cost_to m db - packages_cost_to n db) c.args.disk.now
     c.loop-next.disk c.pick.new.disk db (omega (arith, cost_more db k m c.in-Some.ensures.0, inv.more)) inv.looks inv.faults (Some picked)
     c.in-Ok-Some.ensures.asks)
 
@@ -27,7 +28,8 @@ returns-in-Err-clause-asks g c =
     let k = c.loop-next.passed in
     let m = c.in-Some.next in
     let inv = c.loop-next.invariant in
-    asks_failed g.D.Disk g.met.D.Disk.follows_trans (cost_to k db - cost_to n db) (cost m db) (cost_all db - cost_to n db) c.args.disk.now
+    asks_failed g.D.Disk g.met.D.Disk.follows_trans (packages_cost_to k db - packages_cost_to n db) (package_cost m db)
+    (packages_cost db - packages_cost_to n db) c.args.disk.now
     c.loop-next.disk c.pick.new.disk db (omega (arith, cost_more db k m c.in-Some.ensures.0, cost_some db m, inv.more)) inv.looks inv.faults _ _
     c.in-Err.fault c.in-Err.ensures.asks
 
@@ -83,7 +85,7 @@ returns-clause-asks g c =
     let inv = c.loop-next.invariant in
     let k = c.loop-next.passed in
     let n = c.args.n in
-    asks_done g.D.Disk (cost_to k db - cost_to n db) (cost_all db - cost_to n db) c.args.disk.now c.loop-next.disk db None
+    asks_done g.D.Disk (packages_cost_to k db - packages_cost_to n db) (packages_cost db - packages_cost_to n db) c.args.disk.now c.loop-next.disk db None
     (omega (arith, cost_some db k)) inv.keeps inv.looks inv.faults
 
 pub returns-in-Ok-Some-clause-own : goal.returns-in-Ok-Some-clause-own

@@ -1,0 +1,39 @@
+-- What is read of the numbers that a picker goes over.
+use Rattle.std.proofs.Common.{◌≡◌, ℕ, ◌+◌, ◌-◌, ◌<◌, ◌≤◌, sym, subst, arith}
+use Rattle.rpm_db.specs.Database.{Database}
+use Rattle.rpm_db.specs.State.{packages}
+use Rattle.rpm_outside.specs.Files.{Files}
+use Rattle.rpm_select.specs.Picks.{entry_in, number_in}
+use Rattle.rpm_select.specs.Reach.{HasIndexRows, Reach, reach_to, Serves}
+use Rattle.rpm_select.specs.declared.picked.Picked.{Picked}
+use Rattle.rpm_select.specs.laws.Costing.{reach_up}
+use Rattle.rpm_pkgdb.specs.Store.{Store}
+use Rattle.rpm_select.specs.declared.selection.Selection.{Selection}
+use Rattle.rpm_select.specs.declared.picked.Picked.TheVariants as pick
+
+-- one more of them
+pub reach_then : (r : Reach) (db : Database) (low before between : ℕ) {n m now : ℕ} → n ≤ m
+    → between + reach_to low r db ≤ before + reach_to n r db
+    → now ≤ between + (reach_to m r db - reach_to n r db) → now + reach_to low r db ≤ before + reach_to m r db
+reach_then r db low before between {n = n} {m = m} le first second = omega (arith, reach_up r db n m le, first, second)
+
+-- up to the package that was picked
+pub entry_reach : (r : Reach) (db : Database) (p : Picked) (low before between : ℕ) {n now : ℕ} → n < number_in p
+    → between + reach_to low r db ≤ before + reach_to n r db
+    → now ≤ between + (reach_to (number_in p) r db - reach_to n r db)
+    → now + reach_to low r db ≤ before + reach_to (entry_in p).0 r db
+entry_reach r db (pick.Good number blob) low before between lt le first =
+    reach_then r db low before between {m = number} (omega (arith, lt)) le first
+entry_reach r db (pick.Bad number) low before between lt le first =
+    reach_then r db low before between {m = number} (omega (arith, lt)) le first
+
+-- what serves the packages that were there serves them where nothing changes
+pub served : (sel : Selection) (s : Store) (p q : Reach) (f f' : Files) → p ≡ q → f ≡ f'
+    → Serves q (packages f'.pkg s) sel → Serves p (packages f.pkg s) sel
+served sel s p q f f' same files serves =
+    subst (λ (g : Files). Serves p (packages g.pkg s) sel) (sym files)
+    (subst (λ (r : Reach). Serves r (packages f'.pkg s) sel) (sym same) serves)
+
+-- an index that held the rows holds them where nothing changes
+pub rows_at : (db : Database) (f f' : Files) → f ≡ f' → HasIndexRows db f'.pkg f'.idx → HasIndexRows db f.pkg f.idx
+rows_at db f f' same rows = subst (λ (g : Files). HasIndexRows db g.pkg g.idx) (sym same) rows

@@ -1,3 +1,0 @@
--- Laws on the definitions, for the crates above.
-pub mod Checked
-pub mod Reporting
