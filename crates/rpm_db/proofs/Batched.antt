@@ -1,13 +1,15 @@
 -- A change of a batch: the store was changed alone, and its rows were gathered.
-use Rattle.std.proofs.Common.{◌≡◌, ◌≤◌, ◌^◌, ◌++◌, ◌==◌, ℕ, Bool, true, List, [], Option, Some, None, is_some, Result, Ok, Err, length, refl, sym, ap, ◌∙◌, subst, inl, inr, arith}
-use Rattle.std.specs.Prelude.{IsTrue, OnOk}
+use Rattle.std.proofs.Common.{◌≡◌, ◌≤◌, ◌^◌, ◌==◌, ℕ, Bool, true, List, [], Option, Some, None, is_some, Result, Ok, Err, refl, sym, ap, ◌∙◌, subst, inl, inr, arith}
+use Rattle.std.specs.Prelude.{IfSome, IsTrue, OnOk}
 use Rattle.std.proofs.lemmas.Bool.{cases_Bool}
-use Rattle.std.proofs.lemmas.List.{append-nil}
 use Rattle.std.proofs.lemmas.Bool.Decides.{nat_tests}
 use Rattle.std.specs.FinMap as finite
 use Rattle.rpm_outside.specs.declared.disk.Disk as disk
-use Rattle.rpm_db.proofs.Vocabulary.{AreLawful, BadIndexIs, blobs, change_for, ChangeFault, Erase, without_number, field_for, FullIndexIs, Gathers, Header, header, header_rows}
-use Rattle.rpm_db.proofs.Vocabulary.{IsChangedStill, CrashLeavesOnly, number_for, old_rows, put_in, put_map, raised_store, TakesRows, times_none}
+use Rattle.rpm_db.proofs.Vocabulary.{AreLawful, BadIndexIs, blobs, blobs_asked, change_asked, ChangeFault, field_for, FitsAsked, FullIndexIs, Gathers, IsForeseen}
+use Rattle.rpm_db.proofs.Vocabulary.{IsChangedStill, CrashLeavesOnly, IndexIs, IsOwnHeader, IsIndexPlanned, IsWholeIndex, LeadsTo, next_store, number_asked, number_for, old_rows, PackageChange}
+use Rattle.rpm_db.proofs.Vocabulary.{rows_asked, rows_at, TakesRows, times_none, Work, WritesRows, WritesWhole}
+use Rattle.rpm_hindex.specs.declared.plan.IndexPlan.{IndexPlan}
+use Rattle.rpm_db.specs.declared.planning.PackageChange.TheVariants as request
 use Rattle.rpm_db.proofs.Vocabulary.{added_rows, dropped_rows}
 use Rattle.rpm_db.proofs.Vocabulary.{added_units, apply, Balances, BlobMap, Change, changed_number, database_of, Files, GatheredChange, HasChanged, HasRows}
 use Rattle.rpm_db.proofs.Vocabulary.{IsGathering, IsPutAside, KeepsSums, KeepsUnits, live_of, nat_cmp, no_row_changes, Owes, OwesOn, Package, packages, packages-blobs}
@@ -16,15 +18,13 @@ use Rattle.rpm_db.specs.Gathering.{IsOrdered}
 use Rattle.rpm_db.specs.Room.{RoomIs}
 use Rattle.rpm_db.specs.State.{State}
 use Rattle.rpm_hindex.specs.State as hindex
-use Rattle.rpm_db.proofs.Applied.{erase_state, put_state}
-use Rattle.rpm_db.proofs.Edited.{rows_erased, rows_put}
+use Rattle.rpm_db.proofs.Edited.{rows_erased}
 use Rattle.rpm_db.proofs.Halves.{state_written}
 use Rattle.rpm_db.proofs.OwedRows.{balance_more, due_more, rows_clear}
-use Rattle.rpm_db.proofs.Reached.{added_are, added_is, dropped_are, live_none}
-use Rattle.rpm_db.proofs.Results.{four_ok, three_ok}
-use Rattle.rpm_db.proofs.Rooms.{put_next}
+use Rattle.rpm_db.proofs.PackageChanges.{added_asked, dropped_asked, number_changed, rows_changed, state_asked, units_asked}
+use Rattle.rpm_db.proofs.Results.{four_ok}
 use Rattle.rpm_db.proofs.Shared.{rows_held}
-use Rattle.rpm_db.proofs.Sums.{changed_is, verdicts_are}
+use Rattle.rpm_db.proofs.Sums.{verdicts_are}
 use Rattle.rpm_db.proofs.Units.{units_ordered}
 use Rattle.rpm_hindex.proofs.Fewer.{units_less}
 
@@ -41,15 +41,52 @@ owed_fits pkg idx value (Some index) stopped owed some order keeps clear o = eli
   | inr other ↦ o.fits (λ at. grind (arith, nat_tests, other, at))
 ]
 
--- what the index takes, told by the files from before a read
-pub takes_at : {D A : Type 0} (d : disk.Ghosts D) (a b : D) (owed all : RowChange) (result : Result A ChangeFault) → IsTrue d.tells
-    → d.files b ≡ d.files a → owed ≡ all → TakesRows d b owed result → TakesRows d a all result
-takes_at d a b owed all result told same is takes =
-    let here = subst (λ (o : RowChange). TakesRows d b o result) is takes in
+-- what the index takes, said of the files from before a read
+pub takes_at : {D A : Type 0} (d : disk.Ghosts D) (a b : D) (owed all : RowChange) (MayBe : ℕ → Type 0) (result : Result A ChangeFault) → IsTrue d.tells
+    → d.files b ≡ d.files a → owed ≡ all → TakesRows d b owed MayBe result → TakesRows d a all MayBe result
+takes_at d a b owed all MayBe result told same is takes =
+    let here = subst (λ (o : RowChange). TakesRows d b o MayBe result) is takes in
     record {
       full = λ told' before after has balances. here.full told' before after (subst (λ (f : Files). HasRows before f.idx) (sym same) has) balances;
       bad = λ told'. subst (λ (f : Files). BadIndexIs all.drops f.idx result) same (here.bad told');
     }
+
+map_some : {A : Type 0} {P Q : A → Type 0} (o : Option A) → ((x : A) → P x → Q x) → IfSome o P → IfSome o Q
+map_some None f p = tt
+map_some (Some x) f p = f x p
+
+-- and what it is planned to become
+pub foreseen_at : {D : Type 0} (d : disk.Ghosts D) (a b : D) (index : hindex.IndexState) (owed all : RowChange) (ahead : Bool) (plan : Option IndexPlan)
+    → (IsTrue d.tells → d.files b ≡ d.files a) → (IsTrue d.tells → owed ≡ all) → IsForeseen d b index owed ahead plan → IsForeseen d a index all ahead plan
+foreseen_at d a b index owed all ahead plan same is f = record {
+  known = f.known;
+  is = map_some plan (λ p (q : IsIndexPlanned d b index owed p.work). record {
+    can = q.can;
+    leads = λ before after balances. record {
+      makes = λ told has.
+          (let here = q.leads before after (subst (λ (o : RowChange). Balances o (rows before) (rows after)) (sym (is told)) balances) in
+          subst (λ (f : Files). WritesRows (rows after) p.work f.idx) (same told)
+          (here.makes told (subst (λ (f : Files). HasRows before f.idx) (sym (same told)) has)));
+      reach = λ told has.
+          (let here = q.leads before after (subst (λ (o : RowChange). Balances o (rows before) (rows after)) (sym (is told)) balances) in
+          omega (
+            arith,
+            here.reach told (subst (λ (f : Files). HasRows before f.idx) (sym (same told)) has),
+            ap (λ (o : RowChange). live_of o.adds) (is told),
+          ));
+    };
+    whole = λ told whole.
+        subst (λ (f : Files). WritesWhole p.work f.idx) (same told) (q.whole told (subst (λ (f : Files). IsWholeIndex f.idx) (sym (same told)) whole));
+  }) f.is;
+}
+
+-- the rows that are left need no more units
+pub units_erased : (file : Units) (st : Store) (n : ℕ)
+    → units_for (rows (packages_of (finite.remove (blobs file st) n))) ≤ units_for (rows (packages file st))
+units_erased file st n =
+    let left = rows (packages_of (finite.remove (blobs file st) n)) in
+    let lost : HasChanged (rows_at n (finite.get (packages file st) n)) [] (rows (packages file st)) left = rows_erased file st n [] refl in
+    units_less left (rows (packages file st)) (λ row. omega (arith, lost row, times_none row))
 
 -- a change that was made had room
 fits_ok : {A P : Type 0} {Q : P → Type 0} (needed : ℕ) (result : Result A ChangeFault) → ((p : P) → Q p → FullIndexIs needed result)
@@ -115,67 +152,94 @@ module _ {D : Type 0} (d : disk.Ghosts D) (a : D) (st : Store) (index : Option h
             (ap (λ (s : State). units_for (rows s.packages)) (sym (state_is told)));
       }
 
-module _ {D A : Type 0} (d : disk.Ghosts D) (a b : D) (st after : Store) (index : Option hindex.IndexState) (stopped : Bool) (owed more : RowChange)
-    (was : IsGathering d a (database_of st index stopped) owed) (idx : IsTrue d.tells → (d.files b).idx ≡ (d.files a).idx) (result : Result A ChangeFault)
-  where
-    -- a header under a new number, or one that is there
-    pub gathers_put : (n : Option ℕ) (h : Header) → header h.blob ≡ Ok h → RoomIs (put_in n (length h.blob) (raised_store st)) st after result
-        → OnOk result (IsPutAside d b st after (put_map (d.files a).pkg st n h.blob) (field_for n st))
-        → OnOk result (IsTrue d.tells → KeepsSums (number_for n st) (d.files a).pkg (d.files b).pkg st after)
-        → OnOk result (IsTrue d.tells → more ≡ with_rows owed (old_rows n (packages (d.files a).pkg st)) (header_rows (number_for n st) h))
-        → (IsTrue d.tells → (from to : finite.FinMap nat_cmp Package) → HasRows from (d.files a).idx
-        → Balances (with_rows owed (old_rows n (packages (d.files a).pkg st)) (header_rows (number_for n st) h)) (rows from) (rows to)
-        → FullIndexIs (units_for (rows to)) result)
-        → (IsTrue d.tells → AreLawful (d.left_since a (d.moment a)) → CrashLeavesOnly d a b (IsChangedStill (state (d.files a).pkg st)
-        (state_of (put_map (d.files a).pkg st n h.blob) (field_for n st)) (d.left_since a (d.moment a))))
-        → Gathers d a b (change_for n h.blob) (database_of st index stopped) (database_of after index stopped) owed more result
-    gathers_put n h own room done sums is full crashes =
-        let file = (d.files a).pkg in
-        let drops = old_rows n (packages file st) in
-        let adds = header_rows (number_for n st) h in
-        let to = put_map file st n h.blob in
-        let images = d.left_since a (d.moment a) in
-        let goes : state_of to (field_for n st) ≡ apply (change_for n h.blob) (state file st) = put_state file st n h own in
-        let changed : HasChanged drops adds (rows (packages file st)) (rows (packages_of to)) = rows_put file st n h own in
-        let there = rows_held n (packages file st) in
-        let fits : IsTrue d.tells → (o : OwesOn d a (database_of st index stopped) owed) → FullIndexIs (units_for (rows (packages_of to))) result =
-        λ told o. full told o.from (packages_of to) o.has (balanced_on d a st index stopped owed drops adds to changed there o) in
-        record {
-          room = subst (λ (s : Option Store). RoomIs s st after result) (put_next n h.blob st) room;
-          gathered = four_ok result (λ put kept gathers room_left.
-              gathered d a st index stopped owed drops adds to changed there b after (change_for n h.blob) more (field_for n st) was put idx goes gathers
-              (added_is file st n h own) (dropped_are file st n h) (sym (added_are file st n h own)) room_left
-              (number_for n st) (changed_is file st n h.blob) kept) done sums is (fits_ok (units_for (rows (packages_of to))) result fits);
-          full = λ told o. subst (λ (s : State). FullIndexIs (units_for (rows s.packages)) result) goes (fits told o);
-          crashes = λ told lawful. subst (λ (s : State). CrashLeavesOnly d a b (IsChangedStill (state file st) s images)) goes (crashes told lawful);
-        }
+-- where its rows only go, the index has room for those that are left
+fits_asked : {D : Type 0} (d : disk.Ghosts D) (a : D) (st : Store) (index : Option hindex.IndexState) (stopped : Bool) (owed : RowChange)
+    → IsGathering d a (database_of st index stopped) owed → (asked : PackageChange) → IsTrue d.tells → OwesOn d a (database_of st index stopped) owed
+    → FitsAsked asked (units_for (rows (packages_of (blobs_asked asked (d.files a).pkg st))))
+fits_asked d a st index stopped owed was (request.Put n view) told o = tt
+fits_asked d a st index stopped owed was (request.Erase n) told o =
+    let file = (d.files a).pkg in
+    let most = owed_fits file (d.files a).idx st index stopped owed was.indexed was.ordered (was.serving told).index was.clear o in
+    omega (arith, most, units_erased file st n)
 
-    -- a number that is taken out
-    pub gathers_erase : (n : ℕ) → RoomIs (Some (without_number n (raised_store st))) st after result
-        → OnOk result (IsPutAside d b st after (finite.remove (blobs (d.files a).pkg st) n) st.field)
-        → OnOk result (IsTrue d.tells → KeepsSums n (d.files a).pkg (d.files b).pkg st after)
-        → OnOk result (IsTrue d.tells → more ≡ record { drops = owed.drops ++ old_rows (Some n) (packages (d.files a).pkg st); adds = owed.adds })
-        → ((needed : ℕ) → needed ≤ 2 ^ 28 → FullIndexIs needed result)
-        → (IsTrue d.tells → AreLawful (d.left_since a (d.moment a)) → CrashLeavesOnly d a b (IsChangedStill (state (d.files a).pkg st)
-        (state_of (finite.remove (blobs (d.files a).pkg st) n) st.field) (d.left_since a (d.moment a))))
-        → Gathers d a b (Erase n) (database_of st index stopped) (database_of after index stopped) owed more result
-    gathers_erase n room done sums is full crashes =
-        let file = (d.files a).pkg in
-        let gone = old_rows (Some n) (packages file st) in
-        let left = finite.remove (blobs file st) n in
-        let images = d.left_since a (d.moment a) in
-        let goes : state_of left st.field ≡ apply (Erase n) (state file st) = erase_state file st n in
-        let lost : HasChanged gone [] (rows (packages file st)) (rows (packages_of left)) = rows_erased file st n [] refl in
-        let less = units_less (rows (packages_of left)) (rows (packages file st)) (λ row. omega (arith, lost row, times_none row)) in
-        let fits : IsTrue d.tells → OwesOn d a (database_of st index stopped) owed → units_for (rows (packages_of left)) ≤ 2 ^ 28 =
-        λ told o. (let most = owed_fits file (d.files a).idx st index stopped owed was.indexed was.ordered (was.serving told).index was.clear o in
-        omega (arith, most, less)) in
-        record {
-          room = room;
-          gathered = three_ok result (λ put kept gathers.
-              gathered d a st index stopped owed gone [] left lost (rows_held (Some n) (packages file st)) b after (Erase n) more st.field was put idx goes
-              (λ told. gathers told ∙ ap (λ (rs : List Row). record { drops = owed.drops ++ gone; adds = rs }) (sym (append-nil owed.adds))) (sym live_none)
-              refl refl fits n refl kept) done sums is;
-          full = λ told o. subst (λ (s : State). FullIndexIs (units_for (rows s.packages)) result) goes (full _ (fits told o));
-          crashes = λ told lawful. subst (λ (s : State). CrashLeavesOnly d a b (IsChangedStill (state file st) s images)) goes (crashes told lawful);
-        }
+-- a change of the store alone, by what was asked
+pub gathers_asked : {D A : Type 0} (d : disk.Ghosts D) (a b : D) (st after : Store) (index : Option hindex.IndexState) (stopped : Bool) (owed more : RowChange)
+    → IsGathering d a (database_of st index stopped) owed → (IsTrue d.tells → (d.files b).idx ≡ (d.files a).idx) → (result : Result A ChangeFault)
+    → (asked : PackageChange) → IsOwnHeader asked → RoomIs (next_store (change_asked asked) st) st after result
+    → OnOk result (IsPutAside d b st after (blobs_asked asked (d.files a).pkg st) (field_for (number_asked asked) st))
+    → OnOk result (IsTrue d.tells → KeepsSums (number_for (number_asked asked) st) (d.files a).pkg (d.files b).pkg st after)
+    → OnOk result (IsTrue d.tells → more ≡ with_rows owed (old_rows (number_asked asked) (packages (d.files a).pkg st)) (rows_asked asked st))
+    → (IsTrue d.tells → TakesRows d a (with_rows owed (old_rows (number_asked asked) (packages (d.files a).pkg st)) (rows_asked asked st))
+    (FitsAsked asked) result)
+    → (IsTrue d.tells → AreLawful (d.left_since a (d.moment a)) → CrashLeavesOnly d a b (IsChangedStill (state (d.files a).pkg st)
+    (state_of (blobs_asked asked (d.files a).pkg st) (field_for (number_asked asked) st)) (d.left_since a (d.moment a))))
+    → Gathers d a b (change_asked asked) (database_of st index stopped) (database_of after index stopped) owed more result
+gathers_asked d a b st after index stopped owed more was idx result asked own room done sums is takes crashes =
+    let file = (d.files a).pkg in
+    let drops = old_rows (number_asked asked) (packages file st) in
+    let adds = rows_asked asked st in
+    let to = blobs_asked asked file st in
+    let images = d.left_since a (d.moment a) in
+    let goes = state_asked file st asked own in
+    let changed = rows_changed file st asked own in
+    let there = rows_held (number_asked asked) (packages file st) in
+    let fits : IsTrue d.tells → (o : OwesOn d a (database_of st index stopped) owed) → FullIndexIs (units_for (rows (packages_of to))) result =
+    λ told o. (takes told).full told o.from (packages_of to) o.has (balanced_on d a st index stopped owed drops adds to changed there o)
+    (fits_asked d a st index stopped owed was asked told o) in
+    record {
+      room = room;
+      gathered = four_ok result (λ put kept gathers room_left.
+          gathered d a st index stopped owed drops adds to changed there b after (change_asked asked) more (field_for (number_asked asked) st) was put idx goes
+          gathers (units_asked file st asked own) (dropped_asked file st asked) (added_asked file st asked own) room_left
+          (number_for (number_asked asked) st) (number_changed file st asked) kept) done sums is (fits_ok (units_for (rows (packages_of to))) result fits);
+      full = λ told o. subst (λ (s : State). FullIndexIs (units_for (rows s.packages)) result) goes (fits told o);
+      crashes = λ told lawful. subst (λ (s : State). CrashLeavesOnly d a b (IsChangedStill (state file st) s images)) goes (crashes told lawful);
+    }
+
+-- ---- a change on its own
+
+-- where its rows only go, an index in order has room for those that are left
+fits_alone : (file idx : Units) (st : Store) (index : hindex.IndexState) (asked : PackageChange) → hindex.is_in_order index ≡ true → hindex.KeepsIndexValue idx index
+    → HasRows (packages file st) idx → FitsAsked asked (units_for (rows (packages_of (blobs_asked asked file st))))
+fits_alone file idx st index (request.Put n view) order keeps has = tt
+fits_alone file idx st index (request.Erase n) order keeps has =
+    omega (arith, units_ordered idx index (packages file st) order keeps has, units_erased file st n)
+
+module _ {D : Type 0} (d : disk.Ghosts D) (a : D) (st : Store) (index : hindex.IndexState) (owed : RowChange) (none : owed ≡ no_row_changes) (asked : PackageChange)
+    (own : IsOwnHeader asked) where
+  abbrev file : Units
+  file = (d.files a).pkg
+
+  abbrev all : RowChange
+  all = with_rows owed (old_rows (number_asked asked) (packages file st)) (rows_asked asked st)
+
+  abbrev alone : RowChange
+  alone = with_rows no_row_changes (old_rows (number_asked asked) (packages file st)) (rows_asked asked st)
+
+  balanced : Balances alone (rows (packages file st)) (rows (packages_of (blobs_asked asked file st)))
+  balanced =
+      balance_more no_row_changes (old_rows (number_asked asked) (packages file st)) (rows_asked asked st) (rows (packages file st)) (rows (packages file st))
+      (rows (packages_of (blobs_asked asked file st))) (λ row. refl) (rows_changed file st asked own) (rows_held (number_asked asked) (packages file st))
+
+  -- what the index takes
+  pub takes_alone : {A : Type 0} (result : Result A ChangeFault) → hindex.is_in_order index ≡ true
+      → (IsTrue d.tells → hindex.KeepsIndexValue (d.files a).idx index) → (IsTrue d.tells → TakesRows d a all (FitsAsked asked) result)
+      → IndexIs d a (packages file st) (old_rows (number_asked asked) (packages file st))
+      (units_for (rows (packages_of (blobs_asked asked file st)))) result
+  takes_alone result order keeps takes =
+      let here = λ (told : IsTrue d.tells).
+      subst (λ (o : RowChange). TakesRows d a (with_rows o (old_rows (number_asked asked) (packages file st)) (rows_asked asked st)) (FitsAsked asked) result)
+      none (takes told) in
+      record {
+        full = λ told has. (here told).full told (packages file st) (packages_of (blobs_asked asked file st)) has balanced
+            (fits_alone file (d.files a).idx st index asked order (keeps told) has);
+        bad = λ told. (here told).bad told;
+      }
+
+  -- and what its plan leads to
+  pub leads_alone : (work : Work) → IsIndexPlanned d a index all work
+      → LeadsTo d a index.units (packages file st) (packages_of (blobs_asked asked file st)) (rows_asked asked st) work
+  leads_alone work plan =
+      (subst (λ (o : RowChange). IsIndexPlanned d a index (with_rows o (old_rows (number_asked asked) (packages file st)) (rows_asked asked st)) work) none
+      plan).leads
+      (packages file st) (packages_of (blobs_asked asked file st)) balanced

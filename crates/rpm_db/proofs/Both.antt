@@ -1,7 +1,7 @@
 -- The log stays where another file changes, and the store stays quiet while the index does.
-use Rattle.std.proofs.Common.{◌≡◌, ℕ, refl, sym, ◌∙◌, subst, arith}
+use Rattle.std.proofs.Common.{◌≡◌, ℕ, refl, sym, subst, arith}
 use Rattle.std.specs.Prelude.{IsTrue}
-use Rattle.rpm_db.proofs.Vocabulary.{bytes_for, ImageFrom, IsImageOfChange, Changes, File, Files, Idx, images, IsQuiet, leaves_weaker, Log, OnlyIn, Pkg, Runs, runs_then}
+use Rattle.rpm_db.proofs.Vocabulary.{bytes_for, ImageFrom, IsImageOfChange, Changes, File, Files, Idx, images, IsQuiet, leaves_weaker, Log, OnlyIn, Pkg, Runs}
 use Rattle.rpm_db.proofs.Vocabulary.{SameLog, RepresentsStore, Store, Units}
 use Rattle.rpm_outside.specs.declared.disk.Disk as disk
 
@@ -30,11 +30,6 @@ module _ {D : Type 0} (d : disk.Ghosts D) where
   pub runs_rows : (R : Units → Units → Type 0) (most : ℕ) (a b : D) → Run Idx R most a b
       → Runs d SameLog a b
   runs_rows R most a b = runs_log Idx R most a b (λ x y same. same) refl
-
-  pub runs_both : ((a b c : D) → d.follows a b → d.follows b c → d.follows a c) → (R S : Units → Units → Type 0) (m n : ℕ) (a b c : D) → Run Pkg R m a b
-      → Run Idx S n b c → Runs d SameLog a c
-  runs_both trans R S m n a b c first second =
-      runs_then d trans SameLog SameLog SameLog a b c (λ x y same. same) (λ x y z p q. q ∙ p) (runs_store R m a b first) (runs_rows S n b c second)
 
   -- the store stays quiet while the index changes
   pub quiet_then : IsTrue d.tells → (value : Store) (S : Units → Units → Type 0) (n : ℕ) (b c : D) → Run Idx S n b c → IsQuiet value (d.files b) (images d b)

@@ -2,7 +2,7 @@
 use Rattle.std.proofs.Common.{◌≡◌, ℕ, ◌+◌, ◌≤◌, true, sym, ap, ◌∙◌, subst}
 use Rattle.std.specs.Prelude.{IsTrue}
 use Rattle.rpm_outside.specs.declared.disk.Disk as disk
-use Rattle.rpm_db.proofs.Vocabulary.{Anything, AreLawful, AreBothRead, BlobMap, blobs, BlobsTo, CanChange, Changes, Files, Idx, images, IndexTo, IsApplied}
+use Rattle.rpm_db.proofs.Vocabulary.{AreLawful, BlobMap, blobs, BlobsTo, Changes, Files, Idx, images, IndexTo, IsApplied, IsPutAside, SameLog}
 use Rattle.rpm_db.proofs.Vocabulary.{IsChangedStill, IsLawful, IsQuiet, IsSealedAfter, IsDurable, IsStoreWritten, KeepsStore, CrashLeaves, packages_of, Pkg, rows, Runs}
 use Rattle.rpm_db.proofs.Vocabulary.{SameFiles, Represents, state, state-blobs, state_of, IsTornOnly, Store, store, Units, Work, WritesRows, HasRows, nat_cmp}
 use Rattle.rpm_db.proofs.Vocabulary.{Package, packages, packages-blobs, IsImageOfChange, leaves_then, leaves_weaker}
@@ -10,7 +10,6 @@ use Rattle.rpm_db.specs.State.{State}
 use Rattle.std.specs.FinMap as finite
 use Rattle.rpm_hindex.specs.State as hindex
 use Rattle.rpm_db.proofs.Both.{quiet_then}
-use Rattle.rpm_db.proofs.Found.{current_in_order}
 use Rattle.rpm_db.proofs.Unwritten.{quiet_same, durable_same, crashes_written}
 use Rattle.rpm_db.proofs.Changed.{Fits, index_crash, rows_sealed, store_crash}
 use Rattle.rpm_db.proofs.Raised.{stands_same}
@@ -65,11 +64,7 @@ module _ {D : Type 0} (d : disk.Ghosts D) where
     durable = s.durable;
   }
 
-  -- what can be changed can be read
-  pub read_of : (at : D) (value : Store) (index : hindex.IndexState) → CanChange d at value index → AreBothRead d at value index
-  read_of at value index r = record { order = current_in_order value.generation index r.order; keeps = r.keeps; units = r.units }
-
-  -- what crashes leave while the store is written, and then the index, told by the files from before the plan
+  -- what crashes leave while the store is written, said of the files from before the plan
   module _ (a b e : D) (told : IsTrue d.tells) (lawful : AreLawful (images d a)) (now : images d a (d.files a)) (run : Runs d SameFiles a b) (value : Store)
       (keeps : KeepsStore (d.files a).pkg value) (made : 1 ≤ value.pages) (quiet : IsQuiet value (d.files a) (images d a))
       (durable : IsDurable Idx (d.files a) (images d a)) (next : ℕ) (after : BlobMap)
@@ -108,17 +103,26 @@ module _ {D : Type 0} (d : disk.Ghosts D) where
     pub half_crashes : Leaves e
     half_crashes = since e in_store
 
-    pub both_crash : (c : D) (new : Store) (work : Work) (generation m : ℕ) → WritesRows (rows (packages_of after)) work (d.files a).idx
-        → Changes d Pkg Anything m b e → new.generation ≡ value.generation + 1 → new.field ≡ next → IsStoreWritten d e new after → generation ≡ new.generation
-        → Changes d Idx (IndexTo generation work (d.files e).idx) 0 e c → Leaves c
-    both_crash c new work generation m writes run_store raised field_is stored is run_index =
-        let idx = (d.files b).idx in
-        let writes_now = subst (λ (f : Files). WritesRows (rows (packages_of after)) work f.idx) (sym (run.reads_as told)) writes in
-        let in_index = subst (λ (u : Units). CrashLeaves d e c (IsImageOfChange Idx (IndexTo (value.generation + 1) work u) (images d e))) (run_store.idx told)
-        (subst (λ (n : ℕ). CrashLeaves d e c (IsImageOfChange Idx (IndexTo n work (d.files e).idx) (images d e))) (is ∙ raised) (run_index.any_moment told)) in
-        since c (leaves_then d b e c Still in_store
-        (leaves_weaker d e c (IsImageOfChange Idx (IndexTo (value.generation + 1) work idx) (images d e)) Still (λ image s.
-        (let m = run_store.now told s.from s.was in
-        index_crash value.generation value.field next was after idx fits (images d b) work writes_now image m.from s.from m.was m.log
-        (m.idx ∙ still m.from m.was) (stands_same _ _ _ _ _ _ s.from.pkg raised field_is
-        (stored.blobs_are told) (stored.stands told s.from s.was)) s.pkg s.log s.idx)) in_index))
+  -- and while the index is written after it
+  pub index_crashes : (a e c : D) → IsTrue d.tells → AreLawful (images d a) → images d a (d.files a) → (value after : Store) → KeepsStore (d.files a).pkg value
+      → 1 ≤ value.pages → (to : BlobMap) (next generation : ℕ) (work : Work) → Runs d SameLog a e → (d.files e).idx ≡ (d.files a).idx
+      → IsPutAside d e value after to next → generation ≡ after.generation → WritesRows (rows (packages_of to)) work (d.files a).idx
+      → CrashLeaves d a e (IsChangedStill (state (d.files a).pkg value) (state_of to next) (images d a))
+      → Changes d Idx (IndexTo generation work (d.files e).idx) 0 e c
+      → CrashLeaves d a c (IsChangedStill (state (d.files a).pkg value) (state_of to next) (images d a))
+  index_crashes a e c told lawful now value after keeps made to next generation work run same put is writes first change =
+      let idx = (d.files a).idx in
+      let was = blobs (d.files a).pkg value in
+      let Still = IsChangedStill (state_of was value.field) (state_of to next) (images d a) in
+      let fits = fits_lawful (d.files a).pkg idx value keeps made (lawful (d.files a) now) in
+      let in_index = subst (λ (u : Units). CrashLeaves d e c (IsImageOfChange Idx (IndexTo (value.generation + 1) work u) (images d e))) same
+      (subst (λ (n : ℕ). CrashLeaves d e c (IsImageOfChange Idx (IndexTo n work (d.files e).idx) (images d e))) (is ∙ put.generation_is)
+      (change.any_moment told)) in
+      subst (λ (s : State). CrashLeaves d a c (IsChangedStill s (state_of to next) (images d a))) (sym (state-blobs (d.files a).pkg value))
+      (leaves_then d a e c Still
+      (subst (λ (s : State). CrashLeaves d a e (IsChangedStill s (state_of to next) (images d a))) (state-blobs (d.files a).pkg value) first)
+      (leaves_weaker d e c (IsImageOfChange Idx (IndexTo (value.generation + 1) work idx) (images d e)) Still (λ image s.
+      (let m = run.now told s.from s.was in
+      index_crash value.generation value.field next was to idx fits (images d a) work writes image m.from s.from m.was m.came
+      (put.durable told s.from s.was ∙ same) (stands_same _ _ _ _ _ _ s.from.pkg put.generation_is put.field_is
+      (put.stored.blobs_are told) (put.stored.stands told s.from s.was)) s.pkg s.log s.idx)) in_index))

@@ -23,8 +23,8 @@ pub mod Prepared
 pub mod Wholes
 pub mod Edited
 pub mod Unwritten
-pub mod Planning
 pub mod Refused
+pub mod PackageChanges
 pub mod Rooms
 pub mod Puts
 pub mod Applied

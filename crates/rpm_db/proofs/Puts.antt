@@ -1,10 +1,10 @@
 -- A header that is planned, and what planning and writing it reads.
-use Rattle.std.proofs.Common.{◌≡◌, inr, ℕ, ◌+◌, ◌≤◌, Bool, true, false, List, Option, Some, None, is_none, Ok, refl, sym, ap, ◌∙◌, subst, arith}
+use Rattle.std.proofs.Common.{◌≡◌, inr, ℕ, ◌+◌, ◌≤◌, Bool, true, false, List, Option, Some, None, is_none, refl, sym, ap, ◌∙◌, subst, arith}
 use Rattle.std.specs.FinMap as finite
-use Rattle.rpm_db.proofs.Vocabulary.{BlobMap, blobs, cost_before, field_after, field_for, HasChanged, Header, header, header_rows, IsFor, IsPlan, Move}
-use Rattle.rpm_db.proofs.Vocabulary.{moves_of, moving_cost, nat_cmp, NeedsPage, next_field, number_for, old_rows, Package, packages, packages_of, Plan}
-use Rattle.rpm_db.proofs.Vocabulary.{ReadsAtMost, Row, rows, Store, Units, with_spare}
-use Rattle.rpm_db.proofs.Edited.{rows_put, blobs_room, number_is, field_is}
+use Rattle.rpm_db.proofs.Vocabulary.{BlobMap, blobs, cost_before, field_after, field_for, IsFor, IsPlan, Move}
+use Rattle.rpm_db.proofs.Vocabulary.{moves_of, moving_cost, NeedsPage, next_field, number_for, packages, Plan}
+use Rattle.rpm_db.proofs.Vocabulary.{ReadsAtMost, Store, Units, with_spare}
+use Rattle.rpm_db.proofs.Edited.{blobs_room, number_is, field_is}
 
 -- ---- the rows that change, as the planned value says them
 
@@ -22,16 +22,6 @@ number_room (Some n) spare value = refl
 
 pub number_same : (n : Option ℕ) (value planned : Store) → planned ≡ with_spare planned.spare value → number_for n planned ≡ number_for n value
 number_same n value planned same = ap (number_for n) same ∙ number_room n planned.spare value
-
-pub rows_planned : (file : Units) (value planned : Store) → planned ≡ with_spare planned.spare value → (n : Option ℕ) (number : ℕ)
-    → number ≡ number_for n planned → (adds : List Row) {h : Header} → adds ≡ header_rows number h → header h.blob ≡ Ok h
-    → HasChanged (old_rows n (packages file planned)) adds (rows (packages file planned))
-    (rows (packages_of (finite.insert (blobs file value) (number_for n value) (Some h.blob))))
-rows_planned file value planned same n number is adds {h} adds_are own =
-    let new = rows (packages_of (finite.insert (blobs file value) (number_for n value) (Some h.blob))) in
-    let adds_is : adds ≡ header_rows (number_for n value) h = adds_are ∙ ap (λ (k : ℕ). header_rows k h) (is ∙ number_same n value planned same) in
-    subst (λ (ps : finite.FinMap nat_cmp Package). HasChanged (old_rows n ps) adds (rows ps) new) (sym (packages_same file value planned same))
-    (subst (λ (rs : List Row). HasChanged (old_rows n (packages file value)) rs (rows (packages file value)) new) (sym adds_is) (rows_put file value n h own))
 
 -- ---- what is written
 

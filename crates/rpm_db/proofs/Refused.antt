@@ -1,10 +1,11 @@
 -- What a fault says.
-use Rattle.std.proofs.Common.{◌≡◌, ℕ, ◌^◌, ◌≤◌, ◌⊎◌, inl, inr, Bool, List, length, true, false, Ok, Err, refl, sym, ◌∙◌, subst, arith}
+use Rattle.std.proofs.Common.{◌≡◌, ℕ, ◌^◌, ◌≤◌, ◌⊎◌, inl, inr, Bool, List, true, false, Ok, Err, refl, sym, ◌∙◌, subst, arith}
 use Rattle.std.specs.Prelude.{IfErr, Result}
-use Rattle.rpm_db.proofs.Vocabulary.{AddAnswer, BadCause, BadHeader, BadIndex, BadIndexIs, ChangeFault, Database, DiskFault, EraseCause, EraseAnswer, FullCause, FullIndexIs, Header}
-use Rattle.rpm_db.proofs.Vocabulary.{header, holds, IndexFull, is_stopping, IsStoreFull, IsOfStoreErasing, IsOfIndex, IsOfReading, IsRefusal, LaterCause, LaterIs}
-use Rattle.rpm_db.proofs.Vocabulary.{generation_of, GenerationSpent, IsRead, NoMemory, NoSuch, NumbersSpent, PutAnswer, PutsHeader, store_of, Row, Stopped, Units}
-use Rattle.rpm_db.specs.Database.{next_package_number}
+use Rattle.rpm_db.proofs.Vocabulary.{AddAnswer, BadCause, BadHeader, BadIndex, BadIndexIs, ChangeFault, Database, DiskFault, EraseCause, EraseAnswer, FullCause, FullIndexIs}
+use Rattle.rpm_db.proofs.Vocabulary.{header, holds, IndexFull, is_stopping, IsOfAside, IsOfStoreErasing, IsOfIndex, IsOfReading, IsRefusal, LaterCause, LaterIs}
+use Rattle.rpm_db.proofs.Vocabulary.{generation_of, GenerationSpent, IsRead, NoMemory, NoSuch, NumbersSpent, PutAnswer, PutsHeader, PackageChange, Row, Stopped, Units}
+use Rattle.rpm_db.specs.declared.planning.PackageChange.TheVariants as request
+use Rattle.rpm_db.proofs.Results.{failed}
 
 -- after the generation and the room in the store
 pub later_of_index : (generation : ℕ) (full : Type 0) (fault : ChangeFault) → IsOfIndex fault → (generation ≡ 4294967295 → ⊥) → ¬ full
@@ -14,6 +15,16 @@ later_of_index generation full (BadIndex unit) is left fits = (left, fits)
 later_of_index generation full DiskFault is left fits = left
 later_of_index generation full NoMemory is left fits = left
 later_of_index generation full others is left fits = absurd is
+
+-- a change that was planned had a generation and room, also where the disk fails then
+pub later_written : {A : Type 0} (generation : ℕ) (full : Type 0) (result : Result A ChangeFault) → (generation ≡ 4294967295 → ⊥) × ¬ full
+    → IfErr result (λ e. e ≡ DiskFault) → LaterIs generation full result
+later_written generation full (Ok done) later kind = later
+later_written generation full (Err fault) later kind = subst (LaterCause generation full) (sym kind) later.0
+
+pub full_written : {A : Type 0} (needed : ℕ) (result : Result A ChangeFault) → needed ≤ 2 ^ 28 → IfErr result (λ e. e ≡ DiskFault) → FullIndexIs needed result
+full_written needed (Ok done) fits kind = fits
+full_written needed (Err fault) fits kind = subst (FullCause needed) (sym kind) tt
 
 -- all but a fault of the disk leave the files
 pub is_refusal : (fault : ChangeFault) → (fault ≡ DiskFault → ⊥) → IsRefusal fault
@@ -45,18 +56,18 @@ reading_of DiskFault needed is full fits = tt
 reading_of NoMemory needed is full fits = tt
 reading_of others needed is full fits = is
 
--- ---- a number that is taken out of the store alone, which reading may refuse
+pub erase_of : {A : Type 0} (db : Database) (n : ℕ) (result : Result A ChangeFault) → db.stopped ≡ false → holds n db ≡ true
+    → LaterIs (generation_of db) ⊥ result → EraseAnswer db n result
+erase_of db n (Ok done) going here later = (going, here, later)
+erase_of db n (Err fault) going here later = erase_cause db n fault going here later
 
-reading_cause : (db : Database) (n : ℕ) (fault : ChangeFault) → db.stopped ≡ false → holds n db ≡ true → (generation_of db ≡ 4294967295 → ⊥)
-    → IsOfReading fault → EraseCause db n fault
-reading_cause db n DiskFault going here left kind = (going, here, left)
-reading_cause db n NoMemory going here left kind = (going, here, left)
-reading_cause db n others going here left kind = absurd kind
+-- it isn't refused for its number
+pub erase_refused : {A : Type 0} (generation : ℕ) (result : Result A ChangeFault) → LaterIs generation ⊥ result
+    → (result ≡ Err NoSuch) ⊎ (result ≡ Err GenerationSpent) → result ≡ Err GenerationSpent
+erase_refused generation result later (inl is) = absurd (subst (λ r. LaterIs generation ⊥ r) is later)
+erase_refused generation result later (inr is) = is
 
-pub erase_is : {A : Type 0} (db : Database) (n : ℕ) (result : Result A ChangeFault) → db.stopped ≡ false → holds n db ≡ true
-    → (generation_of db ≡ 4294967295 → ⊥) → IfErr result IsOfReading → EraseAnswer db n result
-erase_is db n (Ok done) going here left kind = (going, here, (left, λ none. none))
-erase_is db n (Err fault) going here left kind = reading_cause db n fault going here left kind
+-- ---- a fault of reading
 
 pub reading_full : (needed : ℕ) (fault : ChangeFault) → IsOfReading fault → FullCause needed fault
 reading_full needed DiskFault kind = tt
@@ -68,10 +79,6 @@ reading_bad drops idx DiskFault kind = tt
 reading_bad drops idx NoMemory kind = tt
 reading_bad drops idx others kind = absurd kind
 
-pub never_of_index : {A : Type 0} (drops : List Row) (idx : Units) (result : Result A ChangeFault) → IfErr result IsOfReading → BadIndexIs drops idx result
-never_of_index drops idx (Ok done) kind = tt
-never_of_index drops idx (Err fault) kind = reading_bad drops idx fault kind
-
 pub never_of_disk : {A : Type 0} (drops : List Row) (idx : Units) (result : Result A ChangeFault) → IfErr result (λ e. e ≡ DiskFault)
     → BadIndexIs drops idx result
 never_of_disk drops idx (Ok done) is = tt
@@ -82,34 +89,25 @@ index_of_reading DiskFault kind = tt
 index_of_reading NoMemory kind = tt
 index_of_reading others kind = absurd kind
 
-pub erase_full : {A : Type 0} (needed : ℕ) (result : Result A ChangeFault) → IfErr result IsOfReading → needed ≤ 2 ^ 28 → FullIndexIs needed result
-erase_full needed (Ok done) kind fits = fits
-erase_full needed (Err fault) kind fits = reading_full needed fault kind
-
 pub erasing_of : (fault : ChangeFault) → IsOfReading fault → IsOfStoreErasing fault
 erasing_of DiskFault kind = tt
 erasing_of NoMemory kind = tt
 erasing_of others kind = absurd kind
 
-pub not_reading : {A : Type 0} (result : Result A ChangeFault) → IfErr result IsOfReading → (result ≡ Err NoSuch) ⊎ (result ≡ Err GenerationSpent) → ⊥
-not_reading result kind (inl is) = subst (λ r. IfErr r IsOfReading) is kind
-not_reading result kind (inr is) = subst (λ r. IfErr r IsOfReading) is kind
+-- a fault of reading comes to a change of the store alone
+pub aside_reading : (asked : PackageChange) (fault : ChangeFault) → IsOfReading fault → IsOfAside asked fault
+aside_reading (request.Put n view) fault kind = tt
+aside_reading (request.Erase n) fault kind = erasing_of fault kind
 
--- a header that is added, to a value that isn't stopped and has a number left
-pub add_cause : (db : Database) (bytes : List ℕ) (own : Header) (fault : ChangeFault) → db.stopped ≡ false → header bytes ≡ Ok own
-    → (next_package_number db ≡ 4294967295 → ⊥) → LaterCause (generation_of db) (IsStoreFull (store_of db) true (length own.blob)) fault
-    → AddAnswer {A = ℕ} db bytes (Err fault)
-add_cause db bytes own (BadHeader f) going read left later = absurd later
-add_cause db bytes own NoSuch going read left later = absurd later
-add_cause db bytes own NumbersSpent going read left later = absurd later
-add_cause db bytes own Stopped going read left later = absurd later
-add_cause db bytes own others going read left later = (left, record { going = going; own = own; read = read; later = later })
+-- one of the index is not that no generation is left
+pub not_spent : {A : Type 0} (fault : ChangeFault) → IsOfIndex fault → failed A fault ≡ failed A GenerationSpent → ⊥
+not_spent GenerationSpent kind is = kind
+not_spent others kind is = absurd cc
 
-pub add_is : (db : Database) (bytes : List ℕ) (own : Header) (result : Result ℕ ChangeFault) → db.stopped ≡ false → header bytes ≡ Ok own
-    → (next_package_number db ≡ 4294967295 → ⊥) → LaterIs (generation_of db) (IsStoreFull (store_of db) true (length own.blob)) result
-    → AddAnswer db bytes result
-add_is db bytes own (Ok n) going read left later = (left, record { going = going; own = own; read = read; later = later })
-add_is db bytes own (Err fault) going read left later = add_cause db bytes own fault going read left later
+pub never_aside : {A : Type 0} (drops : List Row) (idx : Units) (result : Result A ChangeFault) → IfErr result IsOfStoreErasing → BadIndexIs drops idx result
+never_aside drops idx (Ok done) kind = tt
+never_aside drops idx (Err (BadIndex unit)) kind = absurd kind
+never_aside drops idx (Err others) kind = tt
 
 -- ---- bytes that are the same header
 

@@ -1,7 +1,7 @@
 -- Facts that hold of a result that is Ok.
 use Rattle.std.proofs.Common.{◌≡◌, ℕ, ◌≤◌, Ok, Err, ap, arith}
 use Rattle.std.specs.Prelude.{Result, OnOk, OnErr, IfOk, IfErr}
-use Rattle.rpm_db.proofs.Vocabulary.{ChangeFault, DiskFault, HasCauseAt, NoMemory}
+use Rattle.rpm_db.proofs.Vocabulary.{ChangeFault, DiskFault, HasCauseAt}
 
 pub map_ok : {A E P Q : Type 0} (r : Result A E) → (P → Q) → OnOk r P → OnOk r Q
 map_ok (Ok a) f p = f p
@@ -41,7 +41,7 @@ map_if_ok (Err e) f p = tt
 
 -- ---- a fault of the disk
 
-abbrev failed : (X : Type 0) → ChangeFault → Result X ChangeFault
+abbrev pub failed : (X : Type 0) → ChangeFault → Result X ChangeFault
 failed X fault = Err fault
 
 pub err_as : {A B : Type 0} (a b : ChangeFault) → failed A a ≡ failed A b → failed B a ≡ failed B b
@@ -52,10 +52,6 @@ pub cause_as : {A B : Type 0} {m n : ℕ} (fault : ChangeFault) → HasCauseAt (
     → HasCauseAt (failed B fault ≡ Err DiskFault) m n
 cause_as fault cause = record { later = cause.later; rose = λ is. cause.rose (err_as fault DiskFault is) }
 
--- none, where memory was refused
-pub cause_memory : {X : Type 0} {n : ℕ} → HasCauseAt (failed X NoMemory ≡ Err DiskFault) n n
-cause_memory = record { later = omega arith; rose = λ is. absurd cc }
-
--- nor where the last call was made
+-- none, where the last call was made
 pub cause_done : {X V : Type 0} {m n k : ℕ} (x : X) → HasCauseAt V m n → n ≤ k → HasCauseAt (Ok x ≡ failed X DiskFault) m k
 cause_done x first le = record { later = omega (arith, first.later, le); rose = λ is. absurd cc }

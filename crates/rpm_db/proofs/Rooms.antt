@@ -1,20 +1,17 @@
 -- Where a change finds room.
-use Rattle.std.proofs.Common.{◌≡◌, ℕ, ◌+◌, List, length, Option, Some, None, is_none, Ok, Err, refl, sym, ap, ◌∙◌, subst}
-use Rattle.std.specs.Prelude.{IfErr, IsSome, OnOk, Result}
-use Rattle.rpm_db.proofs.Vocabulary.{BadIndex, change_for, ChangeFault, without_number, HasEdit, IndexFull, IsStoreFull, IsOfIndex, IsOfReading, LaterCause, LaterIs}
+use Rattle.std.proofs.Common.{◌≡◌, ℕ, ◌+◌, List, length, Option, Some, None, Ok, Err, refl, sym, ap, ◌∙◌, subst}
+use Rattle.std.specs.Prelude.{IfErr, IsSome, Result}
+use Rattle.rpm_db.proofs.Vocabulary.{BadIndex, change_for, ChangeFault, DiskFault, without_number, IndexFull, IsOfIndex, LaterCause}
 use Rattle.rpm_db.proofs.Vocabulary.{next_store, option_map, placement, placed_generation, Placement, placement_of, Plan, put_in}
 use Rattle.rpm_db.proofs.Vocabulary.{raised_store, RoomCause, Store, StoreFull, with_placed, with_plan, with_spare}
-use Rattle.rpm_db.proofs.Refused.{later_of_index}
-use Rattle.rpm_db.specs.declared.writing.Edit.TheVariants as edit
 use Rattle.rpm_db.specs.Room.{RoomIs}
-use Rattle.rpm_db.specs.inner.Both.{FindsRoom}
 
 some_is : {X : Type 0} (said : Option X) (x : X) → said ≡ Some x → IsSome said
 some_is None x is = absurd cc
 some_is (Some y) x is = refl
 
 -- the index comes after a place
-room_of_index : {X : Type 0} (said : Option X) (x : X) (fault : ChangeFault) → IsOfIndex fault → said ≡ Some x → RoomCause said fault
+pub room_of_index : {X : Type 0} (said : Option X) (x : X) (fault : ChangeFault) → IsOfIndex fault → said ≡ Some x → RoomCause said fault
 room_of_index said x StoreFull kind is = absurd kind
 room_of_index said x (IndexFull needed) kind is = some_is said x is
 room_of_index said x (BadIndex unit) kind is = some_is said x is
@@ -31,35 +28,25 @@ mapped f o (BadIndex unit) room = some_mapped f o room
 mapped f o others room = tt
 
 -- what a place says, the store with the blob says
-room_put : (n : Option ℕ) (size : ℕ) (value : Store) (fault : ChangeFault) → RoomCause (placement n size value) fault
+pub room_put : (n : Option ℕ) (size : ℕ) (value : Store) (fault : ChangeFault) → RoomCause (placement n size value) fault
     → RoomCause (put_in n size (raised_store value)) fault
 room_put n size value fault room =
     mapped (λ (p : Placement). with_placed p (raised_store value)) (placement n size (raised_store value)) fault
     (subst (λ (o : Option Placement). RoomCause o fault) (sym (placed_generation n size (value.generation + 1) value)) room)
 
 -- a plan that was written
-put_placed : (n : Option ℕ) (size : ℕ) (old mid new : Store) (plan : Plan) → placement n size old ≡ Some (placement_of plan)
+pub put_placed : (n : Option ℕ) (size : ℕ) (old mid new : Store) (plan : Plan) → placement n size old ≡ Some (placement_of plan)
     → mid ≡ with_spare mid.spare old → new ≡ with_spare new.spare (with_plan plan (raised_store mid))
     → put_in n size (raised_store old) ≡ Some (with_spare old.spare new)
 put_placed n size old mid new plan said room ok =
     ap (option_map (λ (p : Placement). with_placed p (raised_store old))) (placed_generation n size (old.generation + 1) old ∙ said)
     ∙ ap Some (sym (ap (with_spare old.spare) (ok ∙ ap (λ (v : Store). with_spare new.spare (with_plan plan (raised_store v))) room)))
 
--- a header that was planned, whatever both files answer then
-module _ (n : Option ℕ) (size : ℕ) (old mid new : Store) (plan : Plan) (later : LaterIs {A = Plan} old.generation (IsStoreFull old (is_none n) size) (Ok plan))
-    (said : placement n size old ≡ Some (placement_of plan)) (room : mid ≡ with_spare mid.spare old) where
-  pub finds_room : {A : Type 0} (result : Result A ChangeFault) → OnOk result (HasEdit (edit.Put plan) (raised_store mid) new) → IfErr result IsOfIndex
-      → FindsRoom n size old new result
-  finds_room (Ok done) is kind = record { later = later; placed = put_placed n size old mid new plan said room is.is }
-  finds_room (Err fault) is kind = record {
-    later = later_of_index _ _ fault kind later.0 later.1;
-    placed = room_put n size old fault (room_of_index _ (placement_of plan) fault kind said);
-  }
-
--- or that wasn't
-pub finds_none : {A : Type 0} (n : Option ℕ) (size : ℕ) (old new : Store) (fault : ChangeFault)
-    → LaterCause old.generation (IsStoreFull old (is_none n) size) fault → RoomCause (placement n size old) fault → FindsRoom {A = A} n size old new (Err fault)
-finds_none n size old new fault later room = record { later = later; placed = room_put n size old fault room }
+-- a store that was written, also where the disk fails then
+pub room_written : {A : Type 0} (said : Option Store) (old new : Store) (result : Result A ChangeFault) → said ≡ Some (with_spare old.spare new)
+    → IfErr result (λ e. e ≡ DiskFault) → RoomIs said old new result
+room_written said old new (Ok done) is kind = is
+room_written said old new (Err fault) is kind = subst (RoomCause said) (sym kind) tt
 
 -- a header under a new number, or one that is there
 pub put_next : (n : Option ℕ) (bytes : List ℕ) (value : Store) → put_in n (length bytes) (raised_store value) ≡ next_store (change_for n bytes) value
@@ -73,12 +60,3 @@ room_erased generation n value StoreFull later = absurd later.1
 room_erased generation n value (IndexFull needed) later = refl
 room_erased generation n value (BadIndex unit) later = refl
 room_erased generation n value others later = tt
-
--- so does one that is taken out of the store alone
-pub room_alone : {A : Type 0} (n : ℕ) (st after : Store) (result : Result A ChangeFault) → OnOk result (HasEdit (edit.Erase n) (raised_store st) after)
-    → IfErr result IsOfReading → RoomIs (Some (without_number n (raised_store st))) st after result
-room_alone n st after (Ok done) is kind = ap Some (sym (ap (with_spare st.spare) is.is))
-room_alone n st after (Err StoreFull) is kind = absurd kind
-room_alone n st after (Err (IndexFull needed)) is kind = absurd kind
-room_alone n st after (Err (BadIndex unit)) is kind = absurd kind
-room_alone n st after (Err others) is kind = tt

@@ -2,7 +2,7 @@
 use Rattle.std.proofs.Common.{◌≡◌, ◌≤◌, Bool, true, Some, refl, sym, ap, ◌∙◌, subst}
 use Rattle.std.specs.Prelude.{IsTrue}
 use Rattle.rpm_db.proofs.Vocabulary.{database_of, Files, HasRows, images, IsIndexed, IsLawful, IsQuiet, IsServing, packages, Runs, SameFiles, Store, store}
-use Rattle.rpm_db.proofs.Vocabulary.{Units, with_room, with_spare}
+use Rattle.rpm_db.proofs.Vocabulary.{Units, with_spare}
 use Rattle.rpm_pkgdb.specs.Store as pkgdb
 use Rattle.rpm_hindex.specs.State as hindex
 use Rattle.rpm_db.proofs.Edited.{quiet_room}
@@ -30,14 +30,6 @@ rows_of_disk pkg idx value index keeps made kept current lawful =
 -- room in memory alone
 pub room_same : (value new : Store) → new ≡ value → new ≡ with_spare new.spare value
 room_same value new same = subst (λ (v : Store). v ≡ with_spare v.spare value) (sym same) refl
-
--- the value as it was, up to that room
-pub refused_room : (value new : Store) (index changed : hindex.IndexState) (was is : Bool) → new ≡ with_spare new.spare value → changed ≡ index → is ≡ was
-    → database_of new (Some changed) is ≡ with_room new.spare (database_of value (Some index) was)
-refused_room value new index changed was is same same_index going =
-    ap (λ (v : Store). database_of v (Some changed) is) same
-    ∙ ap (λ (i : hindex.IndexState). database_of (with_spare new.spare value) (Some i) is) same_index
-    ∙ ap (λ (b : Bool). database_of (with_spare new.spare value) (Some index) b) going
 
 -- as it was
 pub refused_same : (value new : Store) (index changed : hindex.IndexState) (was is : Bool) → new ≡ value → changed ≡ index → is ≡ was

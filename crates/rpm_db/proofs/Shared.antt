@@ -1,7 +1,7 @@
 -- A change of rows without those that are both dropped and added.
 use Rattle.std.proofs.Common.{◌≡◌, ℕ, ◌+◌, ◌≤◌, ◌<◌, ◌==◌, List, [], ◌∷◌, take, drop, length, cond, Option, Some, None, sym, ap, ◌∙◌, inl, inr, arith}
 use Rattle.std.specs.FinMap as finite
-use Rattle.rpm_db.proofs.Vocabulary.{AreWithout, HasChanged, nat_cmp, no_row, of_at, old_rows, Package, Row, row_nth, rows, rows_at, same_row, times}
+use Rattle.rpm_db.proofs.Vocabulary.{nat_cmp, no_row, of_at, old_rows, Package, Row, row_nth, rows, rows_at, same_row, times}
 use Rattle.rpm_db.proofs.Vocabulary.{times-rows, times_none, times_one}
 use Rattle.std.proofs.lemmas.Bool.{cases_Bool}
 use Rattle.std.proofs.lemmas.Bool.Decides.{nat_tests}
@@ -28,12 +28,6 @@ pub times_rest : (row : Row) (xs : List Row) (i : ℕ) → times row (take i xs)
 unfolding times
 times_rest row xs i = sum_by-take-drop (λ (x : Row). cond (same_row row x) 1 0) xs i
 
--- both changes make the same of rows that hold what is dropped
-changed_without : (drops adds gone new old after : List Row) → ((row : Row) → times row drops ≤ times row old) → AreWithout adds drops gone
-    → AreWithout drops adds new → HasChanged drops adds old after → HasChanged gone new old after
-changed_without drops adds gone new old after held gone_is new_is changed row =
-    omega (arith, held row, gone_is row, new_is row, changed row)
-
 -- the packages' rows hold those of a number
 pub rows_held : (n : Option ℕ) (packages : finite.FinMap nat_cmp Package) (row : Row) → times row (old_rows n packages) ≤ times row (rows packages)
 rows_held None packages row = omega (arith, times_none row)
@@ -44,10 +38,3 @@ rows_held (Some n) packages row = elim (cases_Bool (row.number == n)) [
       omega (arith, here))
   | inr other ↦ (let apart : row.number ≡ n → ⊥ = λ is. grind (arith, nat_tests) in omega (arith, of_at n (finite.get packages n) row apart))
 ]
-
--- so both make the same of the packages' rows
-pub changed_still : (n : Option ℕ) (packages : finite.FinMap nat_cmp Package) (adds gone new after : List Row)
-    → AreWithout adds (old_rows n packages) gone → AreWithout (old_rows n packages) adds new
-    → HasChanged (old_rows n packages) adds (rows packages) after → HasChanged gone new (rows packages) after
-changed_still n packages adds gone new after =
-    changed_without (old_rows n packages) adds gone new (rows packages) after (rows_held n packages)

@@ -60,7 +60,7 @@ module _ {D : Type 0} (d : disk.Ghosts D) where
       subst (λ (f : Files). RepresentsStore value f.pkg image.pkg) (sym (run.reads_as told))
       (subst (λ (f : Files). RepresentsStore value (d.files a).pkg f.pkg) (sym c.came) (quiet c.from c.was))
 
-  -- and the index settled
+  -- the index stays durable too
   pub durable_same : (a b : D) → IsTrue d.tells → Runs d SameFiles a b → IsDurable Idx (d.files a) (images d a)
       → IsDurable Idx (d.files b) (images d b)
   durable_same a b told run durable image here =

@@ -15,7 +15,7 @@ pub use Rattle.rpm_db.specs.Lawful.{StaysLawful}
 pub use Rattle.rpm_db.specs.Openings.{IsOpened, IsOpenedOn, must_rebuild, StoreIs, units_needed}
 pub use Rattle.rpm_db.specs.laws.Own.{header-own}
 pub use Rattle.rpm_db.specs.laws.PackageLaws.{get-packages, is_there}
-pub use Rattle.rpm_db.specs.Reaches.{added_units, added_rows, dropped_rows, found_rows, Gains, ReachesMade}
+pub use Rattle.rpm_db.specs.Reaches.{added_units, added_rows, dropped_rows, found_rows, ReachesMade}
 pub use Rattle.rpm_db.specs.Refusals.{AddAnswer, BadCause, BadIndexIs, EraseCause, EraseAnswer, FullCause, FullIndexIs, is_stopping, IsOfStoreErasing, IsOfIndex}
 pub use Rattle.rpm_db.specs.Refusals.{IsOfReading}
 pub use Rattle.rpm_db.specs.Refusals.{IsRead, IsRefusal, LaterCause, LaterIs, PutAnswer, PutsHeader, WholeCause}
@@ -23,7 +23,7 @@ pub use Rattle.rpm_db.specs.Room.{next_store, raised_store, RoomCause}
 pub use Rattle.rpm_db.specs.laws.RowLaws.{of_at, rows-insert, rows-remove, times-append, times-rows, times_none, times_one}
 pub use Rattle.rpm_db.specs.Rows.{key_row, kind_rows, kinds, package_rows, rows_at, rows_in, rows_read}
 unfoldable pub use Rattle.rpm_db.specs.Rows.{header_rows, rows}
-pub use Rattle.rpm_db.specs.laws.Running.{runs_index, runs_looks, runs_none, runs_sync, runs_then, runs_weaker}
+pub use Rattle.rpm_db.specs.laws.Running.{runs_index, runs_looks, runs_sync, runs_then, runs_weaker}
 pub use Rattle.rpm_db.specs.Runs.{ImageFrom, SameFiles, SameLog}
 pub use Rattle.rpm_db.specs.State.{above, Bad, Good, Package, package_of, read_as, state}
 unfoldable pub use Rattle.rpm_db.specs.State.{packages}
@@ -32,17 +32,20 @@ pub use Rattle.rpm_db.specs.Verdicts.{KeepsVerdicts, verdict, verdict_of}
 pub use Rattle.rpm_db.specs.declared.change_fault.ChangeFault.{ChangeFault}
 pub use Rattle.rpm_db.specs.declared.change_fault.ChangeFault.TheVariants.{BadHeader, BadIndex, DiskFault, GenerationSpent, IndexFull, NoMemory, NoSuch}
 pub use Rattle.rpm_db.specs.declared.change_fault.ChangeFault.TheVariants.{NumbersSpent, Stopped, StoreFull}
-pub use Rattle.rpm_db.specs.inner.Both.{AreBothRead, CanChange, IsApplied, IsDone, IsBothRefused, IsStoreWritten}
+pub use Rattle.rpm_db.specs.inner.Both.{CanChange, IndexIs, IsApplied, LeadsTo, IsDone, IsBothRefused, IsStoreWritten}
 pub use Rattle.rpm_db.specs.inner.Edits.{CanEdit, edit_cost, edited_blobs, edited_number, EditReaches, EditsTo, field_edited, HasEdit, IsEdited, KeepsSums}
 pub use Rattle.rpm_db.specs.declared.netting.RowChange.{RowChange}
 pub use Rattle.rpm_db.specs.declared.netting.Standing.{Standing}
+pub use Rattle.rpm_db.specs.declared.planning.PackageChange.{PackageChange}
 pub use Rattle.rpm_db.specs.declared.writing.Edit.{Edit}
 pub use Rattle.rpm_db.specs.inner.Faults.{store_fault}
-pub use Rattle.rpm_db.specs.inner.Filling.{AreOfRows, CanPutAside, IsPutAside, TakesRows}
+pub use Rattle.rpm_db.specs.inner.Filling.{AreOfRows, CanPutAside, IsForeseen, IsIndexPlanned, IsPutAside, TakesRows}
 pub use Rattle.rpm_db.proofs.LawfulLaws.{remade_lawful, remade_none, remade_then, crashes_lawful, void_agrees}
 pub use Rattle.rpm_db.specs.inner.Making.{CanMake, IsEmptyIndex, IsSealedHere}
 pub use Rattle.rpm_db.specs.inner.Order.{AreInOrder, AreNetted, AreWithout, is_row_before, row_cmp, row_of}
-pub use Rattle.rpm_db.specs.inner.Writes.{BlobsTo, change_for, cost_before, field_for, IndexTo, IsSealedAfter, number_for, old_rows, packages_of, put_map}
+pub use Rattle.rpm_db.specs.inner.PackageChanges.{blobs_asked, bytes_asked, change_asked, EndsAsked, FitsAsked, HasRoomForRows, IsEditPlanned, IsFullFor}
+pub use Rattle.rpm_db.specs.inner.PackageChanges.{IsOfAside, IsOwnHeader, IsPlaceRefused, IsPlanAsked, number_asked, refused_store, rows_asked}
+pub use Rattle.rpm_db.specs.inner.Writes.{BlobsTo, change_for, cost_before, field_for, IndexTo, IsSealedAfter, number_for, old_rows, packages_of}
 pub use Rattle.rpm_db.specs.inner.Writes.{sealed_after, state_of, state_with, WritesRows, WritesWhole}
 pub use Rattle.rpm_header.specs.Header.{Header, header}
 pub use Rattle.rpm_header.specs.declared.form.HeaderFault.{HeaderFault}
@@ -86,7 +89,6 @@ pub use Rattle.rpm_pkgdb.specs.Growing.{moving_cost, NeedsPage}
 pub use Rattle.rpm_pkgdb.specs.Placing.{placement, placed_generation, Placement, placement_of, put_in, with_placed}
 pub use Rattle.rpm_pkgdb.specs.Planned.{IsFor, IsStoreFull, IsPlan, moves_of}
 pub use Rattle.rpm_pkgdb.specs.Quiet.{Anything, BlobMap, IsQuiet, RepresentsStore, Represents}
-pub use Rattle.rpm_pkgdb.specs.Reaches.{ReachesTo}
 pub use Rattle.rpm_pkgdb.specs.Slots.{free, is_used, slot_with}
 pub use Rattle.rpm_pkgdb.specs.Stays.{SameOutside}
 pub use Rattle.rpm_pkgdb.specs.Store.{blank_store, in_file, is_blank, KeepsStore, made_or_damaged, made_store, next_number, Store, unless}

@@ -1,7 +1,6 @@
 -- An index that is well formed as a whole, while a change of it is worked out and written.
-use Rattle.std.proofs.Common.{◌≡◌, ℕ, List, Ok, Err, sym, subst}
-use Rattle.std.specs.Prelude.{Result, IfErr}
-use Rattle.rpm_db.proofs.Vocabulary.{BadCause, BadIndex, BadIndexIs, buckets_of, ChangeFault, Files, IsPlanFor, IsSealedAfter, IsWellFormed, IsWholeIndex, Row}
+use Rattle.std.proofs.Common.{◌≡◌, ℕ, List, sym, subst}
+use Rattle.rpm_db.proofs.Vocabulary.{BadCause, BadIndex, buckets_of, ChangeFault, Files, IsPlanFor, IsSealedAfter, IsWellFormed, IsWholeIndex, Row}
 use Rattle.rpm_db.proofs.Vocabulary.{unit_at, Units, WholeCause, Work, WritesWhole}
 use Rattle.rpm_db.proofs.Prepared.{never_bad}
 
@@ -22,8 +21,3 @@ whole_sealed generation work from mid idx same writes sealed =
 pub whole_cause : (drops : List Row) (idx : Units) (fault : ChangeFault) → IsWholeIndex idx → BadCause drops idx fault → WholeCause fault
 whole_cause drops idx (BadIndex unit) whole bad = never_bad drops (buckets_of (unit_at idx 0)) unit idx whole bad
 whole_cause drops idx others whole bad = tt
-
-pub whole_err : {A : Type 0} (drops : List Row) (idx : Units) (result : Result A ChangeFault) → IsWholeIndex idx → BadIndexIs drops idx result
-    → IfErr result WholeCause
-whole_err drops idx (Ok done) whole bad = tt
-whole_err drops idx (Err fault) whole bad = whole_cause drops idx fault whole bad

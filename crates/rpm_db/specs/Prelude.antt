@@ -6,7 +6,7 @@ pub use Rattle.rpm_header.specs.Header.{Header, header}
 pub use Rattle.rpm_header.specs.declared.form.HeaderFault.{HeaderFault}
 pub use Rattle.rpm_hindex.specs.Answers.{AreHits, ChainCosts}
 pub use Rattle.rpm_hindex.specs.Index.{units_at}
-pub use Rattle.rpm_hindex.specs.Plans.{HasChanged, reach_with, units_after}
+pub use Rattle.rpm_hindex.specs.Plans.{reach_with, units_after}
 pub use Rattle.rpm_hindex.specs.Rewrites.{IsRebuildRefused}
 pub use Rattle.rpm_hindex.specs.Rows.{SameRows, row_nth, same_row}
 pub use Rattle.rpm_hindex.specs.Sizes.{live_of, units_for}
@@ -18,7 +18,6 @@ pub use Rattle.rpm_outside.specs.Looks.{ReadAtMost}
 pub use Rattle.rpm_outside.specs.declared.disk.File.TheVariants.{Idx, Pkg}
 pub use Rattle.rpm_pkgdb.specs.Blobs.{blobs}
 pub use Rattle.rpm_pkgdb.specs.Costs.{cost_all, opening_cost}
-pub use Rattle.rpm_pkgdb.specs.Planned.{IsStoreFull}
 pub use Rattle.rpm_pkgdb.specs.Quiet.{Anything, IsQuiet}
 pub use Rattle.rpm_pkgdb.specs.Reaches.{ReachesTo}
 pub use Rattle.rpm_pkgdb.specs.Slots.{slot_with}
@@ -50,23 +49,28 @@ pub use Rattle.rpm_db.specs.Refusals.{AddAnswer, BadIndexIs, EraseAnswer, FullCa
 pub use Rattle.rpm_db.specs.Refusals.{IsOfReading}
 pub use Rattle.rpm_db.specs.Refusals.{IsOfStoreErasing, IsOfRoom, IsRefusal, LaterIs, PutAnswer, StaysWhole, WholeCause}
 pub use Rattle.rpm_db.specs.Refusals.{is_stopping}
-pub use Rattle.rpm_db.specs.Room.{raised_store}
+pub use Rattle.rpm_db.specs.Room.{RoomIs, next_store, raised_store}
 pub use Rattle.rpm_db.specs.Rows.{header_rows, kind_rows, rows, rows_at, rows_read}
 pub use Rattle.rpm_db.specs.State.{Package, package_of, packages, state}
 pub use Rattle.rpm_db.specs.Verdicts.{digest_differs, header_verdict, is_digest_wrong, verdict}
 pub use Rattle.rpm_db.specs.declared.change_fault.ChangeFault.TheVariants.{BadHeader}
 pub use Rattle.rpm_db.specs.declared.open_fault.DbOpenFault.TheVariants.{Damaged}
-pub use Rattle.rpm_db.specs.inner.Both.{AreBothRead, CanApply, CanChange, CanTake, IndexIs, IsApplied}
-pub use Rattle.rpm_db.specs.inner.Both.{FindsRoom, IsDone, IsBlobPlanned, IsStoreWritten, LeadsTo}
+pub use Rattle.rpm_db.specs.inner.Both.{CanApply, CanChange, CanTake, IndexIs, IsApplied}
+pub use Rattle.rpm_db.specs.inner.Both.{IsDone, IsStoreWritten}
 pub use Rattle.rpm_db.specs.inner.Edits.{CanEdit, EditReaches, EditsTo, HasEdit, IsEdited, KeepsSums, Suits, edit_cost}
 pub use Rattle.rpm_db.specs.inner.Edits.{edited_blobs, edited_number}
 pub use Rattle.rpm_db.specs.inner.Edits.{field_edited}
 pub use Rattle.rpm_db.specs.inner.Faults.{store_fault}
-pub use Rattle.rpm_db.specs.inner.Filling.{AreOfRows, CanFill, CanPutAside, IsFilled, IsPutAside, TakesRows}
+pub use Rattle.rpm_db.specs.inner.Filling.{AreOfRows, CanFill, CanPutAside, IsFilled, IsForeseen, IsIndexPlanned, IsPutAside}
+pub use Rattle.rpm_db.specs.inner.Filling.{TakesRows}
 pub use Rattle.rpm_db.specs.inner.Making.{CanIndex, CanMake, IsEmptyIndex, IsIndexFor, IsMadeEmpty, IsRemade}
 pub use Rattle.rpm_db.specs.inner.Making.{IsSealedHere}
 pub use Rattle.rpm_db.specs.inner.Order.{AreInOrder, AreNetted, is_row_before, row_of}
+pub use Rattle.rpm_db.specs.inner.PackageChanges.{EndsAsked, FitsAsked, HasRoomForRows, IsEditPlanned, IsErasing, IsFullFor}
+pub use Rattle.rpm_db.specs.inner.PackageChanges.{IsOfAside}
+pub use Rattle.rpm_db.specs.inner.PackageChanges.{IsOwnHeader, blobs_asked, bytes_asked, change_asked, number_asked}
+pub use Rattle.rpm_db.specs.inner.PackageChanges.{owed_with, refused_database, refused_store, rows_asked}
 pub use Rattle.rpm_db.specs.Runs.{SameFiles, SameLog}
-pub use Rattle.rpm_db.specs.inner.Writes.{BlobsTo, IndexTo, WritesWhole, change_for}
-pub use Rattle.rpm_db.specs.inner.Writes.{cost_before, field_for, number_for, old_rows, packages_of, put_map}
+pub use Rattle.rpm_db.specs.inner.Writes.{BlobsTo, IndexTo}
+pub use Rattle.rpm_db.specs.inner.Writes.{cost_before, field_for, number_for, old_rows, packages_of}
 pub use Rattle.rpm_db.specs.inner.Writes.{state_of}

@@ -5,4 +5,5 @@ pub mod Faults
 pub mod Filling
 pub mod Making
 pub mod Order
+pub mod PackageChanges
 pub mod Writes

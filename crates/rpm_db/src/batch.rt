@@ -1,13 +1,15 @@
 //! A batch of changes of a database: the store changes at each, and the index once for all.
 
-ghost use Rattle.std.specs.Prelude.{◌≡◌, ◌⊎◌, ◌+◌, ◌≤◌, [], length, IsTrue, true, false, Err, OnOk, IfErr};
-ghost use Rattle.rpm_db.specs.Prelude.{AreLawful, package_cost, DiskFault, Erase, EraseAnswer, Gathers, generation_of, has_failed, images, is_indexed, IsGathering, IsLawfulStill, IsLeftSuspended, IsOfStoreErasing, IsOfIndex, IsOfReading, IsOrdered, HasItsRows, IsWholeIndex, CrashLeaves, no_row_changes, OwesOn, Pkg, resumed_database, store_of, Runs, SameLog, sealed_in, StaysWhole, suspended_database};
+ghost use Rattle.std.specs.Prelude.{◌≡◌, ◌⊎◌, ◌+◌, ◌++◌, ◌≤◌, [], length, IsTrue, true, false, Ok, Err, OnOk, IfOk, IfErr};
+ghost use Rattle.std.specs.FinMap as finite;
+ghost use Rattle.rpm_db.specs.Prelude.{Add, AddAnswer, AreLawful, package_cost, CrashLeaves, DiskFault, Erase, EraseAnswer, Gathers, generation_of, has_failed, HasItsRows, header, Header, HeaderFault, images, is_indexed, IsGathering, IsLawfulStill, IsLeftSuspended, IsOfIndex, IsOfReading, IsOfStoreErasing, IsOrdered, IsWholeIndex, next_package_number, no_row_changes, OwesOn, packages_in, Pkg, Put, PutAnswer, ReachesTo, ReadsAtMost, resumed_database, rows_at, Runs, SameLog, sealed_in, StaysWhole, store_of, suspended_database, WholeCause, with_room};
 
 use crate::change_fault::ChangeFault;
 use crate::database::Db;
-use crate::gathering::{erase_aside, fill_index};
 use crate::netting::RowChange;
-use rpm_hindex::Rows;
+use crate::planning::PackageChange;
+use crate::writing::fill_index;
+use rpm_header::View;
 use rpm_outside::Disk;
 use std::alloc::Global;
 use std::marker::Model;
@@ -48,11 +50,150 @@ impl Batch {
     {
         db.is_stopped = true;
         Batch {
-            owed: RowChange {
-                drops: Rows::new(alloc),
-                adds: Rows::new(alloc),
-            },
+            owed: RowChange::none(alloc),
         }
+    }
+
+    /// Adds a header under the next number, and answers it: writes it to the store, under a raised generation, and
+    /// gathers its rows. Bytes after the header aren't kept. The index isn't written, and is read only where its counts
+    /// leave it open whether it has room for the rows.
+    ///
+    /// # Errors
+    ///
+    /// Those of [`Db::add`], in the same order, and `IndexFull` exactly so where the index held the rows as the batch
+    /// began. After `BadHeader` all is as it was; after any other but `DiskFault` the files are, and the batch isn't to
+    /// be used further.
+    pub fn add<D: Disk>(
+        &mut self,
+        alloc: Global,
+        db: &mut Db,
+        disk: &mut D,
+        blob: &[u8],
+    ) -> Result<u32, ChangeFault>
+        requires gathering { IsGathering D.Disk disk.old db.old self.old }
+        ensures causes { AddAnswer (resumed_database db.old) blob.now result }
+        ensures number { IfOk result (λ n. n ≡ next_package_number db.old) }
+        ensures gathers { (h : Header) → header blob.now ≡ Ok h → Gathers D.Disk disk.old disk.new (Add h.blob) db.old db.new self.old self.new result }
+        ensures whole { IsTrue D.tells → IsWholeIndex (D.files disk.old).idx → IfErr result WholeCause }
+        ensures refused { (fault : HeaderFault) → result ≡ Err (ChangeFault.BadHeader fault)
+            → (disk.new ≡ disk.old) × (db.new ≡ db.old) × (self.new ≡ self.old) }
+        ensures left { IsLeftSuspended D.Disk disk.old disk.new db.new (with_room (store_of db.new).spare db.old) self.old.drops result }
+        ensures index { IsTrue D.tells → (D.files disk.new).idx ≡ (D.files disk.old).idx }
+        ensures end { OnOk result (IsTrue D.tells → ReachesTo (store_of db.new) (D.files disk.old).pkg (D.files disk.new).pkg) }
+        ensures runs { Runs D.Disk SameLog disk.old disk.new }
+        ensures cause { DiskFault D.Disk (result ≡ Err ChangeFault.DiskFault) disk.old disk.new }
+    {
+        let view = View::parse(blob)?;
+        self.add_view(alloc, db, disk, &view)
+    }
+
+    /// Adds a header that was parsed under the next number, and answers it: what [`Batch::add`] does of the header's own
+    /// bytes, which aren't checked again. It writes and reads as much, and leaves as much after a crash.
+    ///
+    /// # Errors
+    ///
+    /// Those of [`Batch::add`] but `BadHeader`, in the same order. After `NumbersSpent` all is as it was; after any other
+    /// but `DiskFault` the files are, and the batch isn't to be used further.
+    pub fn add_view<D: Disk>(
+        &mut self,
+        alloc: Global,
+        db: &mut Db,
+        disk: &mut D,
+        view: &View<'_>,
+    ) -> Result<u32, ChangeFault>
+        requires gathering { IsGathering D.Disk disk.old db.old self.old }
+        requires own { header view.now.blob ≡ Ok view.now }
+        ensures causes { AddAnswer (resumed_database db.old) view.now.blob result }
+        ensures number { IfOk result (λ n. n ≡ next_package_number db.old) }
+        ensures gathers { Gathers D.Disk disk.old disk.new (Add view.now.blob) db.old db.new self.old self.new result }
+        ensures whole { IsTrue D.tells → IsWholeIndex (D.files disk.old).idx → IfErr result WholeCause }
+        ensures refused { result ≡ Err ChangeFault.NumbersSpent → (disk.new ≡ disk.old) × (db.new ≡ db.old) × (self.new ≡ self.old) }
+        ensures left { IsLeftSuspended D.Disk disk.old disk.new db.new (with_room (store_of db.new).spare db.old) self.old.drops result }
+        ensures index { IsTrue D.tells → (D.files disk.new).idx ≡ (D.files disk.old).idx }
+        ensures end { OnOk result (IsTrue D.tells → ReachesTo (store_of db.new) (D.files disk.old).pkg (D.files disk.new).pkg) }
+        ensures runs { Runs D.Disk SameLog disk.old disk.new }
+        ensures cause { DiskFault D.Disk (result ≡ Err ChangeFault.DiskFault) disk.old disk.new }
+    {
+        let number = db.store.next_number();
+        if number == u32::MAX {
+            return Err(ChangeFault::NumbersSpent);
+        }
+        match self.change(alloc, db, disk, PackageChange::Put(None, view)) {
+            Ok(()) => Ok(number),
+            Err(fault) => Err(fault),
+        }
+    }
+
+    /// Puts a header in place of the package that a number has, Good or Bad: writes it to the store, under a raised
+    /// generation, and gathers its rows beside those that go. Bytes after the header aren't kept. Reads the blocks of the
+    /// old package, each once. The index isn't written, and is read only where its counts leave it open whether it has
+    /// room for the rows.
+    ///
+    /// # Errors
+    ///
+    /// Those of [`Db::put`], in the same order, and `IndexFull` exactly so where the index held the rows as the batch
+    /// began. After `BadHeader` and `NoSuch` all is as it was; after any other but `DiskFault` the files are, and the
+    /// batch isn't to be used further.
+    pub fn replace<D: Disk>(
+        &mut self,
+        alloc: Global,
+        db: &mut Db,
+        disk: &mut D,
+        n: u32,
+        blob: &[u8],
+    ) -> Result<(), ChangeFault>
+        requires gathering { IsGathering D.Disk disk.old db.old self.old }
+        ensures causes { PutAnswer (resumed_database db.old) n blob.now result }
+        ensures gathers { (h : Header) → header blob.now ≡ Ok h → Gathers D.Disk disk.old disk.new (Put n h.blob) db.old db.new self.old self.new result }
+        ensures whole { IsTrue D.tells → IsWholeIndex (D.files disk.old).idx → IfErr result WholeCause }
+        ensures refused { (result ≡ Err ChangeFault.NoSuch) ⊎ ((fault : HeaderFault) × (result ≡ Err (ChangeFault.BadHeader fault)))
+            → (disk.new ≡ disk.old) × (db.new ≡ db.old) × (self.new ≡ self.old) }
+        ensures left { IsLeftSuspended D.Disk disk.old disk.new db.new (with_room (store_of db.new).spare db.old)
+            (self.old.drops ++ rows_at n (finite.get (packages_in D.Disk disk.old db.old) n)) result }
+        ensures index { IsTrue D.tells → (D.files disk.new).idx ≡ (D.files disk.old).idx }
+        ensures end { OnOk result (IsTrue D.tells → ReachesTo (store_of db.new) (D.files disk.old).pkg (D.files disk.new).pkg) }
+        ensures reads { D.bytes_read disk.new Pkg ≤ D.bytes_read disk.old Pkg + package_cost n db.old }
+        ensures runs { Runs D.Disk SameLog disk.old disk.new }
+        ensures cause { DiskFault D.Disk (result ≡ Err ChangeFault.DiskFault) disk.old disk.new }
+    {
+        let view = View::parse(blob)?;
+        self.replace_view(alloc, db, disk, n, &view)
+    }
+
+    /// Puts a header that was parsed in place of the package that a number has, Good or Bad: what [`Batch::replace`] does
+    /// of the header's own bytes, which aren't checked again. It writes and reads as much, and leaves as much where the
+    /// machine crashes.
+    ///
+    /// # Errors
+    ///
+    /// Those of [`Batch::replace`] but `BadHeader`, in the same order. After `NoSuch` all is as it was; after any other
+    /// but `DiskFault` the files are, and the batch isn't to be used further.
+    pub fn replace_view<D: Disk>(
+        &mut self,
+        alloc: Global,
+        db: &mut Db,
+        disk: &mut D,
+        n: u32,
+        view: &View<'_>,
+    ) -> Result<(), ChangeFault>
+        requires gathering { IsGathering D.Disk disk.old db.old self.old }
+        requires own { header view.now.blob ≡ Ok view.now }
+        ensures causes { PutAnswer (resumed_database db.old) n view.now.blob result }
+        ensures gathers { Gathers D.Disk disk.old disk.new (Put n view.now.blob) db.old db.new self.old self.new result }
+        ensures whole { IsTrue D.tells → IsWholeIndex (D.files disk.old).idx → IfErr result WholeCause }
+        ensures refused { result ≡ Err ChangeFault.NoSuch → (disk.new ≡ disk.old) × (db.new ≡ db.old) × (self.new ≡ self.old) }
+        ensures left { IsLeftSuspended D.Disk disk.old disk.new db.new (with_room (store_of db.new).spare db.old)
+            (self.old.drops ++ rows_at n (finite.get (packages_in D.Disk disk.old db.old) n)) result }
+        ensures index { IsTrue D.tells → (D.files disk.new).idx ≡ (D.files disk.old).idx }
+        ensures end { OnOk result (IsTrue D.tells → ReachesTo (store_of db.new) (D.files disk.old).pkg (D.files disk.new).pkg) }
+        ensures reads { D.bytes_read disk.new Pkg ≤ D.bytes_read disk.old Pkg + package_cost n db.old }
+        ensures runs { Runs D.Disk SameLog disk.old disk.new }
+        ensures cause { DiskFault D.Disk (result ≡ Err ChangeFault.DiskFault) disk.old disk.new }
+    {
+        if !db.store.holds(n) {
+            return Err(ChangeFault::NoSuch);
+        }
+        self.change(alloc, db, disk, PackageChange::Put(Some(n), view))
     }
 
     /// Takes the package that a number has out, Good or Bad: out of the store, under a raised generation, and gathers
@@ -88,13 +229,10 @@ impl Batch {
         ensures runs { Runs D.Disk SameLog disk.old disk.new }
         ensures cause { DiskFault D.Disk (result ≡ Err ChangeFault.DiskFault) disk.old disk.new }
     {
-        if !db.store.holds(n) {
-            return Err(ChangeFault::NoSuch);
+        if db.store.holds(n) {
+            return self.change(alloc, db, disk, PackageChange::Erase(n));
         }
-        if db.store.generation() == u32::MAX {
-            return Err(ChangeFault::GenerationSpent);
-        }
-        erase_aside(alloc, disk, &mut db.store, &mut self.owed.drops, n)
+        Err(ChangeFault::NoSuch)
     }
 
     /// Ends the batch: the index drops and adds the rows that it is owed, and is sealed once. Where there were no

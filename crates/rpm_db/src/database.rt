@@ -55,7 +55,7 @@ fn open_store<D: Disk>(alloc: Global, disk: &mut D) -> Result<PkgDb, DbOpenFault
 }
 
 impl Db {
-    /// Settles both files, and opens the database with its index, which is made from the packages where it isn't
+    /// Makes both files durable, and opens the database with its index, which is made from the packages where it isn't
     /// current. A database that is blank is opened without an index, and nothing is written.
     ///
     /// Beside the two syncs it does what `open_durable` does, and answers what that answers.

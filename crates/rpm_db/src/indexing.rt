@@ -11,7 +11,7 @@ use rpm_outside::{Disk, Failed, File};
 use rpm_pkgdb::PkgDb;
 use std::alloc::Global;
 
-/// Settles both files.
+/// Makes both files durable.
 pub fn sync_both<D: Disk>(disk: &mut D) -> Result<(), Failed>
     ensures same { IsTrue D.tells → D.files disk.new ≡ D.files disk.old }
     ensures pkg { OnOk result (IsTrue D.tells → IsDurable D.Disk Pkg disk.new) }

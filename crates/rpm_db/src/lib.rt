@@ -6,19 +6,14 @@
 #![tactic(auto)]
 
 mod batch;
-mod batch_headers;
 mod change_fault;
 mod changing;
 mod database;
-mod editing;
 mod finding;
-mod gathering;
 mod indexing;
 mod netting;
 mod open_fault;
-mod preparing;
-mod put_view;
-mod putting;
+mod planning;
 mod reading;
 mod rebuilding;
 mod rows;

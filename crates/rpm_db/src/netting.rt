@@ -1,7 +1,7 @@
 //! Rows that go and come while a database changes: those that do both stay as they are.
 
 ghost use Rattle.std.specs.Prelude.{◌≡◌, ◌<◌, ◌++◌, ◌∷◌, [], true, length, drop, map, OnOk, IfOk};
-ghost use Rattle.rpm_db.specs.Prelude.{AreInOrder, AreNetted, is_row_before, row_nth, row_of, same_row, SameRows};
+ghost use Rattle.rpm_db.specs.Prelude.{AreInOrder, AreNetted, is_row_before, no_row_changes, row_nth, row_of, same_row, SameRows};
 
 use rpm_hindex::Rows;
 use std::alloc::{AllocError, Global};
@@ -11,6 +11,18 @@ use std::alloc::{AllocError, Global};
 pub struct RowChange {
     pub drops: Rows,
     pub adds: Rows,
+}
+
+impl RowChange {
+    /// No row goes, and none comes.
+    pub(crate) fn none(alloc: Global) -> RowChange
+        ensures { result ≡ no_row_changes }
+    {
+        RowChange {
+            drops: Rows::new(alloc),
+            adds: Rows::new(alloc),
+        }
+    }
 }
 
 /// Where a row stands in order: by number, kind and place, and then by its key.

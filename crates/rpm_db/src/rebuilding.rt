@@ -14,7 +14,7 @@ use rpm_outside::Disk;
 use rpm_pkgdb::PkgDb;
 use std::alloc::Global;
 
-/// Settles both files, and makes the index from the packages.
+/// Makes both files durable, and the index from the packages.
 fn remake<D: Disk>(
     alloc: Global,
     disk: &mut D,
@@ -47,7 +47,7 @@ fn remake<D: Disk>(
 impl Db {
     /// Makes the index from the packages, whatever it was, and seals it at the present generation.
     ///
-    /// Settles both files first, and reads the blocks of each package once. All memory is taken before the first
+    /// Makes both files durable first, and reads the blocks of each package once. All memory is taken before the first
     /// write. A crash at any moment leaves the packages as they were, and an index that is as it was, void, or
     /// current with the rows of the packages. Then the value serves: it can be changed.
     ///

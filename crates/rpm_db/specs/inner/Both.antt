@@ -1,16 +1,13 @@
 -- A store and its index while one change goes through both: what it asks, its plan, what it leaves.
-use Rattle.std.specs.Prelude.{◌≡◌, ◌≢◌, ℕ, ◌+◌, ◌≤◌, max, List, true, false, IsTrue, IsSome, IfSome, is_none, Option}
-use Rattle.std.specs.Prelude.{Some, None, Result, Ok, Err}
+use Rattle.std.specs.Prelude.{◌≡◌, ◌≢◌, ℕ, ◌+◌, ◌≤◌, max, List, true, false, IsTrue, IsSome, IfSome, Option}
+use Rattle.std.specs.Prelude.{None, Result}
 use Rattle.std.specs.Ordering.{nat_cmp}
 use Rattle.std.specs.FinMap.{FinMap}
 use Rattle.rpm_outside.specs.declared.disk.Disk as disk
 use Rattle.rpm_outside.specs.declared.disk.File.TheVariants.{Idx}
 use Rattle.rpm_outside.specs.Changes.{IsDurable}
 use Rattle.rpm_outside.specs.Files.{Files}
-use Rattle.rpm_pkgdb.specs.declared.plan.Plan.{Plan}
 use Rattle.rpm_pkgdb.specs.Blobs.{blobs}
-use Rattle.rpm_pkgdb.specs.Placing.{placement, placement_of, put_in}
-use Rattle.rpm_pkgdb.specs.Planned.{IsFor, IsStoreFull}
 use Rattle.rpm_pkgdb.specs.Quiet.{BlobMap, IsQuiet, Represents}
 use Rattle.rpm_pkgdb.specs.Slots.{slot_with}
 use Rattle.rpm_pkgdb.specs.Store.{KeepsStore, Store, next_number}
@@ -21,8 +18,7 @@ use Rattle.rpm_hindex.specs.Sizes.{live_of, units_for}
 use Rattle.rpm_hindex.specs.State as hindex
 use Rattle.rpm_db.specs.declared.change_fault.ChangeFault.{ChangeFault}
 use Rattle.rpm_db.specs.Lawful.{HasRows, IsWholeIndex}
-use Rattle.rpm_db.specs.Refusals.{BadIndexIs, FullIndexIs, LaterIs}
-use Rattle.rpm_db.specs.Room.{RoomCause, RoomIs, raised_store}
+use Rattle.rpm_db.specs.Refusals.{BadIndexIs, FullIndexIs}
 use Rattle.rpm_db.specs.Rows.{rows}
 use Rattle.rpm_db.specs.Runs.{SameFiles}
 use Rattle.rpm_db.specs.State.{Package, packages, state}
@@ -39,26 +35,9 @@ pub record CanApply (units : ℕ) (work : Work) : Type 0 where
   pub can : CanWrite units work
   pub ordered : LeavesOrder work
 
--- a blob of this length is planned where it fits, or refused for its room
-abbrev pub IsBlobPlanned : Option ℕ → ℕ → Store → Result Plan ChangeFault → Type 0
-IsBlobPlanned n length value (Ok plan) = (placement n length value ≡ Some (placement_of plan)) × IsFor n length plan
-IsBlobPlanned n length value (Err fault) = RoomCause (placement n length value) fault
-
--- a header of this length had a generation left and room, or was refused for the first that it hadn't
-pub record FindsRoom {A : Type 0} (n : Option ℕ) (size : ℕ) (before after : Store)
-    (result : Result A ChangeFault) : Type 0 where
-  pub later : LaterIs before.generation (IsStoreFull before (is_none n) size) result
-  pub placed : RoomIs (put_in n size (raised_store before)) before after result
-
 -- ---- on a disk
 
 module _ {D : Type 0} (d : disk.Ghosts D) where
-  -- a store and an index that are what the files say
-  pub record AreBothRead (at : D) (value : Store) (index : hindex.IndexState) : Type 0 where
-    pub order : hindex.is_in_order index ≡ true
-    pub keeps : IsTrue d.tells → KeepsStore (d.files at).pkg value
-    pub units : IsTrue d.tells → hindex.KeepsIndexValue (d.files at).idx index
-
   -- a store and its index can be changed: a crash leaves the same packages, and the index is current and durable
   pub record CanChange (at : D) (value : Store) (index : hindex.IndexState) : Type 0 where
     pub going : value.is_stopped ≡ false
