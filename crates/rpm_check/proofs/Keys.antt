@@ -6,7 +6,7 @@ use Rattle.rpm_check.proofs.Vocabulary.{ordering_then, Requirement, slice_cmp, U
 use Rattle.std.proofs.lemmas.Bool.{cases_Bool}
 use Rattle.std.proofs.lemmas.Map.Lookups.{exact_bytes, exact_unsigned}
 
-equal_if : (o : Ordering) → is_eq o ≡ true → o ≡ Equal
+pub equal_if : (o : Ordering) → is_eq o ≡ true → o ≡ Equal
 equal_if Less is = absurd cc
 equal_if Equal is = refl
 equal_if Greater is = absurd cc

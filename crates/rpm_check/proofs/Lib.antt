@@ -11,11 +11,15 @@ pub mod Heading
 pub mod Joining
 pub mod Keys
 pub mod Members
+pub mod Naming
 pub mod Numbering
 mod Offering
 pub mod Picking
 pub mod Placing
 pub mod Providing
+pub mod Ranking
 pub mod Rounding
+pub mod Running
+pub mod Searching
 pub mod Turning
 pub mod Vocabulary

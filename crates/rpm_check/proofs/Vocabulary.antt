@@ -14,22 +14,23 @@ pub use Rattle.rpm_check.specs.declared.faults.CheckFault.{CheckFault}
 pub use Rattle.rpm_check.specs.declared.faults.CheckFault.TheVariants.{DiskFault, NoMemory}
 pub use Rattle.rpm_check.specs.declared.list.Unmet.{Unmet}
 pub use Rattle.rpm_check.specs.declared.memo.Requirement.{Requirement}
-pub use Rattle.rpm_check.specs.declared.names.Named.{Named}
 pub use Rattle.rpm_check.specs.declared.nodes.Node.{Node}
 pub use Rattle.rpm_check.specs.declared.offers.Offer.{Offer}
-pub use Rattle.rpm_check.specs.declared.offers.Range.{Range}
 pub use Rattle.rpm_check.specs.inner.Ends.{BeginsBelow, BeginsUpTo, good_if, good_of, is_end, is_good_at, needs_at}
 pub use Rattle.rpm_check.specs.inner.Faults.{check_fault}
 pub use Rattle.rpm_check.specs.inner.GiverMemos.{KnowsGivers, KnowsGiversOn}
 pub use Rattle.rpm_check.specs.inner.Headers.{header_at, header_read}
+pub use Rattle.rpm_check.specs.inner.Kinds.{offer_order}
 pub use Rattle.rpm_check.specs.inner.Memos.{requirement_order, Knows, KnowsOn, need_of}
 pub use Rattle.rpm_select.specs.Needs.{needed_in}
 pub use Rattle.rpm_check.specs.inner.Nodes.{AreNodesRising, edges_of, node_numbers}
-pub use Rattle.rpm_check.specs.inner.Offers.{AreOffered, given_ranges, hits, is_hit, is_named, IsNamed, KnowsNames, KnowsSources}
+pub use Rattle.rpm_check.specs.inner.Offers.{AreOffered, given_ranges, hits, is_hit, is_named, KnowsNames, KnowsSources}
 pub use Rattle.rpm_check.specs.inner.Offers.{offer_in, offered_ranges, range_in, range_of}
-pub use Rattle.rpm_check.specs.inner.Offers.{ranges_given, ranges_in, ranges_read, any_version_of}
+pub use Rattle.rpm_check.specs.inner.Offers.{ranges_beside, ranges_given, ranges_in, ranges_read, any_version_of}
+unfoldable pub use Rattle.rpm_check.specs.inner.Offers.{IsOffered}
 pub use Rattle.rpm_check.specs.inner.Picking.{is_some_of}
 pub use Rattle.rpm_check.specs.inner.Rounds.{IsFirst, unmet_at}
+pub use Rattle.rpm_check.specs.inner.Runs.{is_of_standing, IsRunOf}
 pub use Rattle.rpm_db.specs.laws.Above.{all_above_zero, both_true, is_below, next_above, none_below, none_is, nothing_above}
 pub use Rattle.rpm_db.specs.Database.{Database, holds, IsNext, Keeps, KeepsIndex}
 pub use Rattle.rpm_db.specs.Database.{store_of}
@@ -73,7 +74,7 @@ pub use Rattle.std.specs.Cmp.Lexicographic.{slice_cmp}
 pub use Rattle.std.specs.FinMap.{entries, FinMap}
 pub use Rattle.std.specs.FinMap.Entries.{below_all}
 pub use Rattle.std.specs.List.{All, AllByRecursion, filter, flat_map, list_any}
-pub use Rattle.std.specs.List.Sorted.{IsBinarySearchResult, IsStrictlyIncreasing}
+pub use Rattle.std.specs.List.Sorted.{IsBinarySearchResult, IsPermutation, IsSorted, IsStrictlyIncreasing}
 pub use Rattle.std.specs.Option.{option_copied}
 pub use Rattle.std.specs.Ordering.{is_eq, is_lt, nat_cmp, ordering_then}
 pub use Rattle.std.specs.Str.{bytes_eq}

@@ -3,9 +3,10 @@ pub mod Ends
 pub mod Faults
 pub mod GiverMemos
 pub mod Headers
+pub mod Kinds
 pub mod Memos
-pub mod Needs
 pub mod Nodes
 pub mod Offers
 pub mod Picking
 pub mod Rounds
+pub mod Runs

@@ -6,6 +6,8 @@ mod ends;
 mod faults;
 mod giver_memo;
 mod giving;
+mod hits;
+mod kinds;
 mod lacking;
 mod list;
 mod looking;
@@ -18,6 +20,7 @@ mod offers;
 mod package;
 mod reading;
 mod report;
+mod runs;
 
 pub use faults::CheckFault;
 pub use giving::givers;

@@ -5,9 +5,10 @@ ghost use Rattle.rpm_check.specs.Prelude.{AreOffered, CheckQuestion, FinMap, giv
 
 use crate::faults::CheckFault;
 use crate::giving::givers;
+use crate::hits::{any_hits, numbers_of_hits};
 use crate::meeting::is_met;
 use crate::names::Names;
-use crate::offers::{Offer, any_hits, is_path, numbers_of_hits, offers_under};
+use crate::offers::{Offer, is_path, offers_under};
 use rpm_db::Db;
 use rpm_outside::Disk;
 use rpm_select::Recent;
@@ -33,7 +34,7 @@ impl Sources {
 }
 
 /// What the packages provide under a name, where that isn't a path, and is one that was looked up before: it is read
-/// then, each package once, and isn't read again while the name is kept. It is taken out of the names.
+/// then, each package once, and isn't read again. It is taken out of the names.
 fn offers_again<D: Disk>(
     alloc: Global,
     db: &Db,
@@ -49,16 +50,17 @@ fn offers_again<D: Disk>(
         → KnowsNames (packages_in D.Disk disk.old db.now) names.new }
     ensures asks { CheckQuestion D.Disk disk.old disk.new db.now result }
 {
-    if is_path(name) || !names.is_again(name) {
+    if is_path(name) {
         return Ok(None);
     }
-    match names.take(name) {
-        Some(offers) => Ok(Some(offers)),
-        None => {
-            let offers = offers_under(alloc, db, disk, name)?;
-            Ok(Some(offers))
-        }
+    if let Some(offers) = names.take(name) {
+        return Ok(Some(offers));
     }
+    if !names.is_again(name) {
+        return Ok(None);
+    }
+    let offers = offers_under(alloc, db, disk, name)?;
+    Ok(Some(offers))
 }
 
 /// Whether a package meets a requirement, with the answers and faults of [`is_met`](crate::is_met). What the packages

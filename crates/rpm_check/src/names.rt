@@ -1,28 +1,19 @@
 //! The names that were looked up again.
 
-ghost use Rattle.std.specs.Prelude.{◌≡◌, Some, map};
+ghost use Rattle.std.specs.Prelude.{Some};
 ghost use Rattle.rpm_check.specs.Prelude.{AreOffered, FinMap, KnowsNames, nat_cmp, Package};
 
 use crate::offers::Offer;
 use std::alloc::{AllocError, Global};
-
-// How many names are kept.
-const MOST: usize = 8;
+use std::collections::BTreeMap;
 
 // How many marks are kept.
-const MARKS: usize = 64;
+const MARKS: usize = 1024;
 
-/// A name, and what the packages provide under it.
-#[derive(Drop)]
-pub struct Named {
-    name: Vec<u8>,
-    offers: Vec<Offer>,
-}
-
-/// The names that were looked up again, the last eight at most, each with what the packages provide under it.
+/// The names that were looked up again, each with what the packages provide under it.
 #[derive(Drop)]
 pub struct Names {
-    kept: Vec<Named>,
+    kept: BTreeMap<Vec<u8>, Vec<Offer>>,
     // The marks of names that were looked up, each in its place, odd from the second time on: names with the same mark
     // are rare.
     marks: [u32; MARKS],
@@ -38,17 +29,19 @@ fn mark_of(name: &[u8]) -> u32 {
 }
 
 impl Names {
+    #[tactic(auto, unfolding(crate::specs::inner::Offers::KnowsNames))]
     pub fn new(alloc: Global) -> Names
         ensures { (packages : FinMap nat_cmp Package) → KnowsNames packages result }
     {
         Names {
-            kept: Vec::new(alloc),
+            kept: BTreeMap::new(alloc),
             marks: [0; MARKS],
         }
     }
 
     /// Notes that a name is looked up, and tells whether it seems to have been twice before. The package that provides
     /// it is often still held the second time, so that nothing need be read.
+    #[tactic(auto, unfolding(crate::specs::inner::Offers::KnowsNames))]
     pub fn is_again(&mut self, name: &[u8]) -> bool
         ensures { (packages : FinMap nat_cmp Package) → KnowsNames packages self.old → KnowsNames packages self.new }
     {
@@ -64,32 +57,17 @@ impl Names {
         ensures taken { (packages : FinMap nat_cmp Package) → KnowsNames packages self.old → AreOffered packages name.now result }
         ensures rest { (packages : FinMap nat_cmp Package) → KnowsNames packages self.old → KnowsNames packages self.new }
     {
-        for at in 0..self.kept.len() {
-            if self.kept[at].name.as_slice() == name {
-                let named = self.kept.remove(at);
-                return Some(named.offers);
-            }
-        }
-        None
+        self.kept.remove(name)
     }
 
-    /// Lets go of the name that wasn't looked up for the longest time, where there is no room for another.
-    fn make_room(&mut self)
-        ensures { (packages : FinMap nat_cmp Package) → KnowsNames packages self.old → KnowsNames packages self.new }
-    {
-        if self.kept.len() >= MOST {
-            let _ = self.kept.remove(0);
-        }
-    }
-
-    /// Keeps a name as the one that was looked up last, with what the packages provide under it.
+    /// Keeps a name, with what the packages provide under it.
+    #[tactic(auto, unfolding(crate::specs::inner::Offers::KnowsNames))]
     pub fn keep(&mut self, alloc: Global, name: &[u8], offers: Vec<Offer>) -> Result<(), AllocError>
         ensures { (packages : FinMap nat_cmp Package) → KnowsNames packages self.old → AreOffered packages name.now (Some offers)
             → KnowsNames packages self.new }
     {
-        self.make_room();
         let name = Vec::from_slice(alloc, name)?;
-        self.kept.push(Named { name, offers })?;
+        self.kept.insert(name, offers)?;
         Ok(())
     }
 }

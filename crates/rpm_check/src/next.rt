@@ -85,9 +85,9 @@ fn next_in<D: Disk>(
 /// The least requirement that no package meets above the pair of a number and a place; `None` exactly where there is
 /// none. A search begins at (0, 0), goes on at the pair that was answered last, and may begin at any other.
 ///
-/// It answers what `unmet` lists, one at a time. Reads the blocks of the package of this number and of those after
-/// it, up to the one that it answers, each once, and looks each distinct requirement of these up once in a call, as
-/// `is_met` does. Holds these requirements and one package at a time.
+/// It answers what `unmet` lists, one at a time, for other programs: no crate here calls it. Reads the blocks of the
+/// package of this number and of those after it, up to the one that it answers, each once, and looks each distinct
+/// requirement of these up once in a call, as `is_met` does. Holds these requirements and one package at a time.
 ///
 /// # Errors
 ///

@@ -1,16 +1,16 @@
 //! What the packages provide under one name.
 
-ghost use Rattle.std.specs.Prelude.{◌≡◌, ◌==◌, IsTrue, filter, IfOk, map, slice_index};
-ghost use Rattle.std.specs.List.{list_any};
-ghost use Rattle.rpm_check.specs.Prelude.{CheckQuestion, entry_in, given_ranges, HasKeptRows, hits, is_hit, IsAskable, needed_in, offer_in, offered_ranges, packages_in, picks, range_in, ranges_in};
+ghost use Rattle.std.specs.Prelude.{◌≡◌, ◌==◌, ◌++◌, IsTrue, IfOk, map, OnOk, Some, slice_index};
+ghost use Rattle.rpm_check.specs.Prelude.{AreOffered, CheckQuestion, entry_in, flat_map, given_ranges, HasKeptRows, IsAskable, offer_in, packages_in, picks, ranges_beside};
 
 use crate::faults::CheckFault;
+use crate::kinds::sort_offers;
 use rpm_db::Db;
 use rpm_header::View;
 use rpm_outside::Disk;
 use rpm_select::{Picked, Picker, Selection};
-use rpm_tags::{Dependency, Tags, dependencies, numbers};
-use rpm_version::{Capability, overlap};
+use rpm_tags::{Tags, dependencies, numbers};
+use rpm_version::Capability;
 use std::alloc::{AllocError, Global};
 
 const PROVIDES: Tags = Tags {
@@ -19,18 +19,12 @@ const PROVIDES: Tags = Tags {
     versions: numbers::PROVIDEVERSION,
 };
 
-/// The range of the versions that are provided: flags and a version.
-#[derive(Drop)]
-pub struct Range {
-    flags: u64,
-    version: Vec<u8>,
-}
-
-/// What one package provides under a name: its number, and a range for each provide.
+/// One provide of a name: the number of its package, and the range of versions that it has.
 #[derive(Drop)]
 pub struct Offer {
-    number: u32,
-    ranges: Vec<Range>,
+    pub number: u32,
+    pub flags: u64,
+    pub version: Vec<u8>,
 }
 
 /// Whether a name is that of a file: it begins with a slash.
@@ -40,38 +34,43 @@ pub fn is_path(name: &[u8]) -> bool
     !name.is_empty() && name[0] == b'/'
 }
 
-/// The ranges that a header provides under a name.
-fn ranges_of(alloc: Global, view: &View<'_>, name: &[u8]) -> Result<Vec<Range>, AllocError>
-    ensures { IfOk result (λ ranges. map range_in ranges.items ≡ ranges_in name.now view.now) }
+/// Adds what a header provides under a name, as that of a number's package.
+fn push_offers(
+    alloc: Global,
+    number: u32,
+    view: &View<'_>,
+    name: &[u8],
+    offers: &mut Vec<Offer>,
+) -> Result<(), AllocError>
+    ensures { OnOk result (map offer_in offers.new.items ≡ map offer_in offers.old.items ++ ranges_beside number name.now view.now) }
 {
-    let mut ranges = Vec::new(alloc);
     let mut left = dependencies(view, PROVIDES);
     while let Some(provided) = left.next() {
         if provided.name == name {
             let version = Vec::from_slice(alloc, provided.version)?;
             let flags = provided.flags;
-            ranges.push(Range { flags, version })?;
+            offers.push(Offer {
+                number,
+                flags,
+                version,
+            })?;
         }
     }
-    Ok(ranges)
+    Ok(())
 }
 
-/// What a package that was picked provides under a name.
-fn offer_of(alloc: Global, picked: &Picked, name: &[u8]) -> Result<Offer, AllocError>
-    ensures { IfOk result (λ offer. offer_in offer ≡ given_ranges name.now (entry_in picked.now)) }
+/// Adds what a package that was picked provides under a name: nothing where it can't be read.
+fn push_picked(
+    alloc: Global,
+    picked: &Picked,
+    name: &[u8],
+    offers: &mut Vec<Offer>,
+) -> Result<(), AllocError>
+    ensures { OnOk result (map offer_in offers.new.items ≡ map offer_in offers.old.items ++ given_ranges name.now (entry_in picked.now)) }
 {
     match picked {
-        Picked::Good { number, blob } => {
-            let ranges = ranges_of(alloc, &blob.view(), name)?;
-            Ok(Offer {
-                number: *number,
-                ranges,
-            })
-        }
-        Picked::Bad { number } => Ok(Offer {
-            number: *number,
-            ranges: Vec::new(alloc),
-        }),
+        Picked::Good { number, blob } => push_offers(alloc, *number, &blob.view(), name, offers),
+        Picked::Bad { .. } => Ok(()),
     }
 }
 
@@ -85,21 +84,22 @@ fn offers_picked<D: Disk>(
 ) -> Result<Vec<Offer>, CheckFault>
     requires asked { IsAskable D.Disk disk.old db.now }
     ensures told { IfOk result (λ found. IsTrue D.tells → HasKeptRows D.Disk disk.old db.now
-        → map offer_in found.items ≡ map (given_ranges name.now) (picks (packages_in D.Disk disk.old db.now) selection.now)) }
+        → map offer_in found.items ≡ flat_map (given_ranges name.now) (picks (packages_in D.Disk disk.old db.now) selection.now)) }
     ensures asks { CheckQuestion D.Disk disk.old disk.new db.now result }
 {
     let mut picker = Picker::new(alloc, db, disk, selection)?;
     let mut found = Vec::new(alloc);
     let mut passed = 0;
     while let Some(next) = picker.next_after(alloc, db, disk, selection, passed)? {
-        found.push(offer_of(alloc, &next, name)?)?;
+        push_picked(alloc, &next, name, &mut found)?;
         passed = next.number();
         picker.take_back(next);
     }
     Ok(found)
 }
 
-/// What the packages provide under a name that isn't a path, by rising number. Reads each that provides it once.
+/// What the packages provide under a name that isn't a path, in the order in which it is searched. Reads each that
+/// provides it once.
 pub fn offers_under<D: Disk>(
     alloc: Global,
     db: &Db,
@@ -108,67 +108,11 @@ pub fn offers_under<D: Disk>(
 ) -> Result<Vec<Offer>, CheckFault>
     requires asked { IsAskable D.Disk disk.old db.now }
     ensures told { IfOk result (λ found. IsTrue D.tells → HasKeptRows D.Disk disk.old db.now
-        → map offer_in found.items ≡ offered_ranges name.now (packages_in D.Disk disk.old db.now)) }
+        → AreOffered (packages_in D.Disk disk.old db.now) name.now (Some found)) }
     ensures asks { CheckQuestion D.Disk disk.old disk.new db.now result }
 {
     let wanted = Capability::of_range(name, 0, &[]);
-    offers_picked(alloc, db, disk, &Selection::Provides(wanted), name)
-}
-
-/// Whether a range overlaps the one of a requirement.
-fn is_hit(range: &Range, needed: &Capability<'_>) -> bool
-    ensures { result ≡ is_hit needed.now.flags needed.now.evr (range_in range.now) }
-{
-    let provided = Capability::of_range(&[], range.flags, &range.version);
-    overlap(
-        provided.flags(),
-        provided.evr(),
-        needed.flags(),
-        needed.evr(),
-    )
-}
-
-impl Offer {
-    /// Whether one of the ranges overlaps the one of a requirement.
-    fn hits(&self, needed: &Capability<'_>) -> bool
-        ensures { result ≡ list_any (λ range. is_hit needed.now.flags needed.now.evr (range_in range)) self.now.ranges.items }
-    {
-        for range in &self.ranges {
-            if is_hit(range, needed) {
-                return true;
-            }
-        }
-        false
-    }
-}
-
-/// Whether what is offered meets a requirement of that name.
-pub fn any_hits(offers: &[Offer], needed: &Dependency<'_>) -> bool
-    ensures { result ≡ list_any (λ offer. hits (needed_in needed.now) (offer_in offer)) offers.now }
-{
-    let wanted = Capability::of_range(needed.name, needed.flags, needed.version);
-    for offer in offers {
-        if offer.hits(&wanted) {
-            return true;
-        }
-    }
-    false
-}
-
-/// The numbers of the packages that offer what meets a requirement of that name.
-pub fn numbers_of_hits(
-    alloc: Global,
-    offers: &[Offer],
-    needed: &Dependency<'_>,
-) -> Result<Vec<u32>, AllocError>
-    ensures { IfOk result (λ found. found.items ≡ map (λ offer. offer.number) (filter (λ offer. hits (needed_in needed.now) (offer_in offer)) offers.now)) }
-{
-    let wanted = Capability::of_range(needed.name, needed.flags, needed.version);
-    let mut found = Vec::new(alloc);
-    for offer in offers {
-        if offer.hits(&wanted) {
-            found.push(offer.number)?;
-        }
-    }
+    let mut found = offers_picked(alloc, db, disk, &Selection::Provides(wanted), name)?;
+    sort_offers(&mut found);
     Ok(found)
 }

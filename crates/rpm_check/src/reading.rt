@@ -20,8 +20,9 @@ use std::alloc::Global;
 /// Reads the blocks of each package once, and looks each distinct requirement up once, as `givers` does: what was
 /// found of a name with these flags and this version is remembered. So with an index it takes n log n steps in the
 /// requirements and the edges, and reads beside them the candidates of each distinct one, but not again the one that
-/// was read last. Holds that and one other package at a time, the distinct requirements, 4 bytes for each package
-/// that meets one of them, 4 bytes for each package and each other that it requires, and the graph.
+/// was read last, and none of a name whose candidates are kept, as `unmet` does. Holds what `unmet` does
+/// but its list, 4 bytes for each package that meets a requirement, 4 bytes for each package and each other that it
+/// requires, and the graph.
 ///
 /// # Errors
 ///
@@ -40,7 +41,7 @@ pub fn read_graph<D: Disk>(alloc: Global, db: &Db, disk: &mut D) -> Result<Graph
     Ok(graph)
 }
 
-/// `Graph::read`, for who has this trait in scope.
+/// `Graph::read`, for other programs: the reports call `read_graph`.
 pub trait ReadGraph {
     /// The graph that `read_graph` gives, with the same faults.
     fn read<D: Disk>(alloc: Global, db: &Db, disk: &mut D) -> Result<Graph, CheckFault>

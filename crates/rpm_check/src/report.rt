@@ -45,9 +45,9 @@ fn push_unmet<D: Disk>(
 /// Reads the blocks of each package once, and looks each distinct requirement up once, as `is_met` does: what was
 /// found of a name with these flags and this version is remembered, in order. So with an index it takes n log n steps
 /// in the requirements, and reads beside them the candidates of each distinct one; of a name that comes in a third range
-/// they are read once more, and then kept for the last eight such names. Holds the distinct requirements, a
-/// package and the one that was read last for a requirement, which isn't read again for the next one, what the packages
-/// provide under those eight names, and 8 bytes for each that is listed.
+/// they are read once more, and then kept, in order: a further range takes log n steps in them. Holds the distinct
+/// requirements, a package and the one that was read last for a requirement, which isn't read again for the next one,
+/// what the packages provide under those names, and 8 bytes for each that is listed.
 ///
 /// # Errors
 ///

@@ -1,6 +1,5 @@
-use Rattle.rpm_check.proofs.Vocabulary.{above, entry_in, Files, given_ranges, keys_asked, NextIs, offer_in, packages, picks, Reach, store_of, Serves}
-use Rattle.std.proofs.Common.{◌≡◌, [], ◌∷◌, ◌++◌, map, Some, None, Ok, ap, sym, ◌∙◌, subst}
-use Rattle.std.proofs.lemmas.List.{map-append}
+use Rattle.rpm_check.proofs.Vocabulary.{above, Files, keys_asked, NextIs, offer_in, packages, picks, Reach, store_of, Serves}
+use Rattle.std.proofs.Common.{◌≡◌, ◌++◌, map, Some, None, Ok, ap, sym, ◌∙◌, subst}
 use Rattle.std.proofs.lemmas.Result.{err_from_is_err_and}
 use Rattle.rpm_check.proofs.Offering.{offers_above, offers_all, offers_gained}
 use Rattle.rpm_check.proofs.offers.offers_picked.Goals as goal
@@ -41,10 +40,8 @@ loop-found-preserved g c =
           → NextIs (above n (picks (packages f.pkg (store_of db)) sel)) (Ok c.in_ok-next.field-0)) (inv.asking.looks.untouched told).same (done.told told)
           (inv.serves told has) in
           let os = c.loop-found.found.items in
-          let added : map offer_in c.push.new.self.items ≡ map offer_in os ++ given_ranges name (entry_in c.in-Some.next) ∷ [] =
-          ap (map offer_in) c.in_ok-push.ensures.items ∙ map-append offer_in os (_ ∷ []) ∙ ap (λ o. map offer_in os ++ o ∷ []) c.in_ok-offer_of.ensures in
-          offers_gained all sel name n _ c.in-Some.next (map offer_in os) (map offer_in c.push.new.self.items) (offers_above all sel name 0)
-          (subst (λ o. NextIs (above n (picks all sel)) (Ok o)) is next) c.number-passed.ensures added (inv.told told has);
+          offers_gained all sel name n _ c.in-Some.next (map offer_in os) (map offer_in c.push_picked.new.offers.items) (offers_above all sel name 0)
+          (subst (λ o. NextIs (above n (picks all sel)) (Ok o)) is next) c.number-passed.ensures c.in_ok-push_picked.ensures (inv.told told has);
     }
 
 pub returns-clause-told : goal.returns-clause-told
@@ -65,15 +62,10 @@ pub returns-in_err-next-clause-asks : goal.returns-in_err-next-clause-asks
 returns-in_err-next-clause-asks g c =
     asks_next g.D.Disk g.met.D.Disk.follows_trans c.loop-found.invariant.asking c.in_err-next.ensures.asks c.from_residual-in_err-next.ensures.1
 
-pub returns-in_err-offer_of-clause-asks : goal.returns-in_err-offer_of-clause-asks
-returns-in_err-offer_of-clause-asks g c =
+pub returns-in_err-push_picked-clause-asks : goal.returns-in_err-push_picked-clause-asks
+returns-in_err-push_picked-clause-asks g c =
     asks_memory g.D.Disk (asking_next g.D.Disk g.met.D.Disk.follows_trans c.loop-found.invariant.asking c.in_ok-next.ensures.asks)
-    c.from_residual-in_err-offer_of.ensures.1
-
-pub returns-in_err-push-clause-asks : goal.returns-in_err-push-clause-asks
-returns-in_err-push-clause-asks g c =
-    asks_memory g.D.Disk (asking_next g.D.Disk g.met.D.Disk.follows_trans c.loop-found.invariant.asking c.in_ok-next.ensures.asks)
-    c.from_residual-in_err-push.ensures.1
+    c.from_residual-in_err-push_picked.ensures.1
 
 pub returns-clause-asks : goal.returns-clause-asks
 returns-clause-asks g c =
