@@ -1,11 +1,11 @@
 -- The date of a day number is one of the calendar.
 use Rattle.std.proofs.Common.{◌≡◌, ℕ, zero, suc, ◌+◌, ◌%◌, ◌≤◌, ◌<◌, [], Bool, true, false, nat_le, cond, pos, refl, ap, ◌∙◌, arith, leb-true, leb-false, inl, inr}
-use Rattle.std.specs.Prelude.{codes, slice_index_or}
+use Rattle.std.specs.Prelude.{slice_index_or}
 use Rattle.std.proofs.lemmas.Bool.{cases_lt}
 use Rattle.jiff_core.proofs.CalendarLemmas.{day_count-day, day_count-last_of_year, day_count-lt_month, day_count-next_month, day_count-next_year, weekday_number-parts}
 use Rattle.jiff_core.proofs.SignedLemmas.{signed_arith}
 use Rattle.jiff_core.specs.Calendar.{days_in_month, IsYear}
-use Rattle.rpm_qfeval.proofs.Vocabulary.{day_count, day_number, day_of, HasDate, last_begun, month_of, weekday_name, weekday_names, weekday_number, year_of}
+use Rattle.rpm_qfeval.proofs.Vocabulary.{day_count, day_number, day_of, HasDate, last_begun, month_of, weekday_name, weekday_names, year_of}
 use Rattle.rpm_qfeval.proofs.Calendar.{number_is, from_epoch, last_count, last_of_them}
 use Rattle.rpm_qfeval.proofs.DateLaw.{from_1970, from_first, month_begun}
 
@@ -123,7 +123,3 @@ module _ (day : ℕ) where
 
 pub weekday_is : (day : ℕ) → weekday_name day ≡ slice_index_or weekday_names ((day + 3) % 7) []
 weekday_is day = ap (λ (n : ℕ). slice_index_or weekday_names n []) (omega (arith, weekday_number-parts (pos day)))
-
-pub first_weekday : weekday_name 0 ≡ codes "Thu"
-unfolding weekday_number
-first_weekday = refl

@@ -20,7 +20,7 @@ pub use Rattle.rpm_qfeval.specs.Meaning.{counts, different, direct, meaning, par
 unfoldable pub use Rattle.rpm_qfeval.specs.Meaning.{bytes, sizes}
 pub use Rattle.rpm_qfeval.specs.Numbers.{has, bit_letters}
 pub use Rattle.rpm_qfeval.specs.Padded.{padded_text}
-pub use Rattle.rpm_qfeval.specs.Texts.{base64_text, escaped_byte, escaped_text, hex_text, in_quotes}
+pub use Rattle.rpm_qfeval.specs.Texts.{base64_text, escaped_byte, escaped_text, hex_text}
 pub use Rattle.rpm_qfeval.specs.declared.ready.Ready.{Ready}
 pub use Rattle.rpm_qfeval.specs.inner.Columns.{AreValues}
 pub use Rattle.rpm_qfeval.specs.inner.Proper.{AreProper, PartIsProper}
@@ -43,4 +43,4 @@ unfoldable pub use Rattle.std.specs.Fmt.{digits}
 pub use Rattle.std.specs.Int.{Width}
 pub use Rattle.std.specs.Iterator.{YieldsFirstBy}
 pub use Rattle.std.specs.List.{concat, position_or_len, range_with_len}
-pub use Rattle.std.specs.Option.{option_and_then, option_copied, option_map, option_or}
+pub use Rattle.std.specs.Option.{option_and_then, option_map, option_or}

@@ -7,7 +7,7 @@ pub use Rattle.jiff_core.specs.Time.{time_seconds}
 pub use Rattle.jiff_core.specs.Weekday.{monday_zero}
 pub use Rattle.rpm_header.specs.Header.{Header}
 pub use Rattle.rpm_outside.specs.SinkFrame.{Writes}
-pub use Rattle.rpm_tags.specs.Value.{TextList, class_of, count_of, value}
+pub use Rattle.rpm_tags.specs.Value.{Elements, TextList, class_of, count_of, value}
 pub use Rattle.rpm_qfeval.specs.Dates.{date_text, day_number, day_of, day_text, four, HasDate, month_name, month_of}
 pub use Rattle.rpm_qfeval.specs.Dates.{spaced_number}
 pub use Rattle.rpm_qfeval.specs.Dates.{two, weekday_name, weekday_names, year_of}
@@ -23,4 +23,5 @@ pub use Rattle.rpm_qfeval.specs.declared.columns.Found.{Found}
 pub use Rattle.rpm_qfeval.specs.inner.Columns.{AreValues, IsColumn, IsOfTag, IsValue}
 pub use Rattle.rpm_qfeval.specs.inner.Pieces.{piece_text}
 pub use Rattle.rpm_qfeval.specs.inner.Proper.{AreProper, PartIsProper}
+pub use Rattle.rpm_qfeval.specs.inner.Reached.{IsReadTo}
 pub use Rattle.rpm_qfeval.specs.inner.Ready.{AreFiles, StandReady, StandsReady}

@@ -6,7 +6,6 @@ ghost use Rattle.rpm_qfeval.specs.Prelude.{AreValues, count_of, Found, found_tex
 use crate::cursor::Cursor;
 use crate::elements::{put_none, put_value};
 use crate::ready::{Ready, is_ready};
-use crate::stream::Stream;
 use arrayvec::ArrayVec;
 use rpm_header::{PlacesRoom, View};
 use rpm_outside::{Failed, Sink};
@@ -32,19 +31,12 @@ pub struct Found<'a> {
     pub value: Option<TagValue<'a>>,
 }
 
-/// How the elements of a value are read: by their place, or texts one after the other.
-#[derive(Drop)]
-enum Reading<'v, 'a> {
-    Placed,
-    Stored(Stream<'v, 'a>),
-    Joined(Cursor<'v, 'a>),
-}
-
-/// What is asked for with its value, and how far texts were read. Contracts see it without that.
+/// What is asked for with its value, and where this is of texts, how far they were read. Contracts see
+/// it without that.
 #[derive(Drop)]
 pub struct Column<'v, 'a> {
     found: &'v Found<'a>,
-    reading: Reading<'v, 'a>,
+    texts: Option<Cursor<'v, 'a>>,
 }
 
 impl<'v, 'a> Model for Column<'v, 'a> {
@@ -52,32 +44,28 @@ impl<'v, 'a> Model for Column<'v, 'a> {
 
     ghost view = { λ s. s.found.now };
 
-    ghost invariant = { λ s. IsColumn s.found.now s.reading };
+    ghost invariant = { λ s. IsColumn s.found.now s.texts };
 }
 
-/// How the elements of what was found are read.
-fn reading_of<'v, 'a>(
+/// The texts of what was found, where it is of texts.
+fn texts_of<'v, 'a>(
     found: &'v Found<'a>,
     view: &View<'a>,
     number: u32,
     room: Option<&'v mut PlacesRoom>,
-) -> Reading<'v, 'a>
+) -> Option<Cursor<'v, 'a>>
     requires { IsValue view.now number found.now }
     ensures { IsColumn found.now result }
 {
-    let value = match &found.value {
-        None => return Reading::Placed,
-        Some(value) => value,
-    };
+    let value = found.value.as_ref()?;
     if value.class() != Class::Text {
-        return Reading::Placed;
+        return None;
     }
-    if let Tag::Stored(tag) = found.asked.tag {
-        if let Some(texts) = texts_in(view, tag) {
-            return Reading::Stored(Stream::new(value, &texts));
-        }
-    }
-    Reading::Joined(Cursor::new(value, room))
+    let stored = match found.asked.tag {
+        Tag::Stored(tag) => texts_in(view, tag),
+        _ => None,
+    };
+    Some(Cursor::new(value, stored, room))
 }
 
 /// Puts what was found by the role of a tag, in a round.
@@ -106,8 +94,8 @@ impl<'v, 'a> Column<'v, 'a> {
         requires { IsValue view.now number found.now }
         ensures { result ≡ found.now }
     {
-        let reading = reading_of(found, view, number, room);
-        Column { found, reading }
+        let texts = texts_of(found, view, number, room);
+        Column { found, texts }
     }
 
     /// What is asked for.
@@ -134,10 +122,9 @@ impl<'v, 'a> Column<'v, 'a> {
             Role::First => 0,
             Role::Count => return put_found(sink, part, self.found, round),
         };
-        match &mut self.reading {
-            Reading::Placed => put_found(sink, part, self.found, round),
-            Reading::Stored(stream) => stream.put(sink, part, place),
-            Reading::Joined(cursor) => cursor.put(sink, part, place),
+        match &mut self.texts {
+            None => put_found(sink, part, self.found, round),
+            Some(texts) => texts.put(sink, part, place),
         }
     }
 }

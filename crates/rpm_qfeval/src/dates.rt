@@ -1,6 +1,6 @@
 //! The dates of moments.
 
-ghost use Rattle.std.specs.Prelude.{◌≡◌, ◌≤◌, ◌<◌, ◌+◌, ◌/◌, ◌%◌, pos, slice_index_or, []};
+ghost use Rattle.std.specs.Prelude.{◌≡◌, ◌≤◌, ◌<◌, ◌/◌, ◌%◌, pos, slice_index_or, []};
 ghost use Rattle.rpm_qfeval.specs.Prelude.{date_text, day_of, day_text, epoch_day, four, monday_zero, month_name, month_of, spaced_number, time_seconds, two, weekday_name, weekday_names, year_of};
 
 use jiff::Timestamp;

@@ -1,6 +1,6 @@
 //! An element of a value is put as its formatter shows it.
 
-ghost use Rattle.std.specs.Prelude.{◌≡◌, decimal, None};
+ghost use Rattle.std.specs.Prelude.{decimal, None};
 ghost use Rattle.rpm_qfeval.specs.Prelude.{blob_text, concat, count_of, element_text, in_width, number_text, or_none, tag_text, text_text, value_text, Writes};
 ghost use Rattle.rpm_qfeval.specs.Dates as dates;
 

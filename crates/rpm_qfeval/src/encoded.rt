@@ -1,6 +1,6 @@
 //! Bytes in hex and in base64, a piece at a time.
 
-ghost use Rattle.std.specs.Prelude.{◌≡◌, ◌≤◌, length};
+ghost use Rattle.std.specs.Prelude.{◌≤◌, length};
 ghost use Rattle.rpm_qfeval.specs.Prelude.{base64_text, hex_text, Writes};
 
 use base64::engine::general_purpose::STANDARD;

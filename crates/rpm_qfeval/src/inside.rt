@@ -11,7 +11,7 @@ use rpm_header::View;
 use rpm_outside::{Failed, Sink, put_all};
 use rpm_qfparse::{Part, Parts};
 
-/// A part of a bracket in a round.
+/// A part of a bracket of which nothing stands ready, in a round.
 #[cycle(inside)]
 fn put_inner_part<O: Sink>(
     sink: &mut O,
@@ -25,7 +25,7 @@ fn put_inner_part<O: Sink>(
     requires told { AreValues view.now number columns.old }
     requires proper { PartIsProper true part.now }
     ensures puts { Writes O.Sink sink.old sink.new (part_bytes view.now number round part.now) result }
-    ensures same { columns.new ≡ columns.old }
+    ensures columns { columns.new ≡ columns.old }
 {
     match part {
         Part::Text(text) => put_all(sink, text.as_slice()),
@@ -33,38 +33,16 @@ fn put_inner_part<O: Sink>(
         Part::Bracket(_) => unreachable!(),
         Part::Condition(tag, first, second) => {
             if is_present(columns, next, view, number, *tag) {
-                put_inner_parts(sink, first, view, number, columns, next, round)
+                put_round(sink, first, view, number, columns, &mut [], next, round)
             } else {
-                put_inner_parts(sink, second, view, number, columns, next, round)
+                put_round(sink, second, view, number, columns, &mut [], next, round)
             }
         }
     }
 }
 
-/// Parts of a bracket in a round.
-#[cycle(inside)]
-#[tactic(auto, using(crate::proofs::ProperParts::part_is_proper))]
-fn put_inner_parts<O: Sink>(
-    sink: &mut O,
-    parts: &Parts,
-    view: &View<'_>,
-    number: u32,
-    columns: &mut [Option<Column<'_, '_>>],
-    next: &mut usize,
-    round: u32,
-) -> Result<(), Failed>
-    requires told { AreValues view.now number columns.old }
-    requires proper { AreProper true parts.now }
-    ensures puts { Writes O.Sink sink.old sink.new (bytes view.now number round parts.now) result }
-    ensures same { columns.new ≡ columns.old }
-{
-    for i in 0..parts.len() {
-        put_inner_part(sink, parts.at(i), view, number, columns, next, round)?;
-    }
-    Ok(())
-}
-
 /// The part of a bracket at a place, in a round: by what stands ready of it, or as any other.
+#[cycle(inside)]
 #[inline(always)]
 fn put_part_at<O: Sink>(
     sink: &mut O,
@@ -100,7 +78,8 @@ fn put_part_at<O: Sink>(
     put_inner_part(sink, part, view, number, columns, next, round)
 }
 
-/// The parts of a bracket in a round.
+/// The parts of a bracket in a round, or those of a condition in it, of which nothing stands ready.
+#[cycle(inside)]
 #[inline(always)]
 #[tactic(auto, using(crate::proofs::ProperParts::part_is_proper))]
 fn put_round<O: Sink>(

@@ -24,7 +24,6 @@ mod printing;
 mod ready;
 mod shown;
 mod sizes;
-mod stream;
 mod writing;
 
 pub use printing::{DirectFault, EvalFault, print, print_direct};

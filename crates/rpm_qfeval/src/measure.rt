@@ -1,6 +1,6 @@
 //! How long a text is, without a copy of it.
 
-ghost use Rattle.std.specs.Prelude.{◌≡◌, ℕ, ◌-◌, length};
+ghost use Rattle.std.specs.Prelude.{◌≡◌, ◌-◌, length};
 ghost use Rattle.rpm_qfeval.specs.Prelude.{base64_text, concat, escaped_text, hex_text, piece_text};
 
 use crate::shown::Shown;

@@ -1,6 +1,6 @@
 //! A format is printed.
 
-ghost use Rattle.std.specs.Prelude.{◌≡◌, ℕ, ◌+◌, ◌%◌, ◌≤◌, [], codes, Ok, slice_index_or};
+ghost use Rattle.std.specs.Prelude.{◌≡◌, ℕ, ◌+◌, ◌%◌, ◌≤◌, [], codes, slice_index_or};
 ghost use Rattle.rpm_qfeval.specs.Prelude.{day_number, day_of, ending, eval_ending, HasDate, meaning, month_of, Prints, weekday_name, weekday_names, year_of};
 
 use crate::sizes::sizes;
@@ -59,7 +59,7 @@ pub enum EvalFault {
 /// after `=` counts apart; 1 MiB more where the files of `FILENAMES` go back often. These are the sizes of
 /// arrays, whatever the format. A tag for which an array has no place would be looked up in each round;
 /// there is none in a format that was read, which has at most two for each of the 89 tags with a name.
-#[tactic(auto, using(crate::proofs::DateLaw::date_is_day, crate::proofs::CivilLaw::is_civil, crate::proofs::CivilLaw::weekday_is, crate::proofs::CivilLaw::first_weekday))]
+#[tactic(auto, using(crate::proofs::DateLaw::date_is_day, crate::proofs::CivilLaw::is_civil, crate::proofs::CivilLaw::weekday_is))]
 pub fn print_direct<O: Sink>(
     format: &Format,
     view: &View<'_>,
@@ -87,8 +87,8 @@ pub fn print_direct<O: Sink>(
     }
 }
 
-/// Prints as `print_direct` does, with the same answers. Takes no memory either, though it is given
-/// an allocator.
+/// Prints as `print_direct` does, with the same answers, for other programs: no crate here calls it. Takes no
+/// memory either, though it is given an allocator.
 ///
 /// # Errors
 ///

@@ -61,8 +61,7 @@ module _ {O E : Type 0} (o : sink.Ghosts O) (e : sink.Ghosts E) where
         → PartProgress {T = Bool} (s ∷ []) (Err what) (shown_outputs o e out' err') (shown_outputs o e to to_err) P
         → PartIs (together (map fails all)) (Err what) (shown_outputs o e out err) (shown_outputs o e to to_err) P
     written_stop to to_err {what = what} {P = P} stop = record {
-      steps =
-          subst (λ (ss : List Step). PartProgress {T = Bool} ss (Err what) (shown_outputs o e out err) (shown_outputs o e to to_err) P)
+      steps = subst (λ (ss : List Step). PartProgress {T = Bool} ss (Err what) (shown_outputs o e out err) (shown_outputs o e to to_err) P)
           (sym (failing_steps all))
           (goes_stop o.tells e.tells all left (s ∷ []) rest (o.taken (inner out)) (o.taken (inner out')) (o.taken (inner to)) (e.taken (inner err))
           (e.taken (inner err')) (e.taken (inner to_err)) is w.goes Bool Bool what P stop);
@@ -71,8 +70,8 @@ module _ {O E : Type 0} (o : sink.Ghosts O) (e : sink.Ghosts E) where
 
   -- all were written
   pub written_all : {all left : List Step} {out out' : Buffered O} {err err' : Buffered E} {any : Bool} {P : Bearer → Type 0} → left ≡ []
-      → Written all left out err out' err' → is_some_of all ≡ any
-      → PartIs (together (map fails all)) (Ok any) (shown_outputs o e out err) (shown_outputs o e out' err') P
+      → Written all left out err out' err' → is_some_of all ≡ any → PartIs (together (map fails all)) (Ok any) (shown_outputs o e out err)
+      (shown_outputs o e out' err') P
   written_all {all = all} {left = left} {out = out} {out' = out'} {err = err} {err' = err'} none w any = record {
     steps = subst (λ (ss : List Step). Through ss (shown_outputs o e out err) (shown_outputs o e out' err')) (sym (failing_steps all))
         (goes_end o.tells e.tells all left (o.taken (inner out)) (o.taken (inner out')) (e.taken (inner err)) (e.taken (inner err')) none w.goes);

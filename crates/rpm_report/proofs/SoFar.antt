@@ -34,8 +34,8 @@ module _ {D : Type 0} (d : disk.Ghosts D) where
     goes_on = looks.goes_on;
   }
 
-  pub peeks_more : ((x y z : D) → d.follows x y → d.follows y z → d.follows x z) → {a b c : D} → OnlyReadsIndexed d true a b → OnlyReadsIndexed d true b c
-      → OnlyReadsIndexed d true a c
+  pub peeks_more : ((x y z : D) → d.follows x y → d.follows y z → d.follows x z) → {a b c : D} → OnlyReadsIndexed d true a b
+      → OnlyReadsIndexed d true b c → OnlyReadsIndexed d true a c
   peeks_more goes first second = peeks_then d goes first second
 
 module _ {D S : Type 0} (d : disk.Ghosts D) (s : sink.Ghosts S) where

@@ -7,7 +7,6 @@ pub use Rattle.rpm_db.specs.Database.{package_cost, packages_cost}
 pub use Rattle.rpm_db.specs.Database.{store_of}
 pub use Rattle.rpm_db.specs.Verdicts.{verdict}
 pub use Rattle.rpm_header.specs.Header.{header}
-pub use Rattle.rpm_outside.specs.Buffered.{held_bytes}
 pub use Rattle.rpm_outside.specs.declared.disk.File.TheVariants.{Pkg}
 pub use Rattle.rpm_qfeval.specs.Numbers.{has}
 pub use Rattle.rpm_select.specs.Reach.{Everything}

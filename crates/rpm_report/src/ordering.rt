@@ -1,6 +1,6 @@
 //! `AnswersKeyed` of the theorem: an order in which the packages could be installed.
 
-ghost use Rattle.std.specs.Prelude.{◌≡◌, ◌<◌, [], ◌∷◌, map, true, IsTrue, Err, IfErr};
+ghost use Rattle.std.specs.Prelude.{◌≡◌, [], ◌∷◌, map, true, IsTrue, Err, IfErr};
 ghost use Rattle.rpm_report.specs.Prelude.{Anywhere, class_steps, DiskFault, flat_map, HaltHands, HasKeptRows, IsAskable, IsOfPrint, label_step, OrderPartIs, OutTakes, packages_in, OnlyReadsIndexed, PartProgress, shown_outputs, HaltsOfSome, TellsOut};
 
 use crate::unreadable::{halt_of_check, read_into, tell_each_bad};

@@ -1,9 +1,9 @@
 //! What the reports share: why a question halts them, a package that is read into a room, and the lines of the
 //! packages that can't be read.
 
-ghost use Rattle.std.specs.Prelude.{◌≡◌, map, IsTrue, IfOk};
+ghost use Rattle.std.specs.Prelude.{◌≡◌, IsTrue, IfOk};
 ghost use Rattle.std.specs.FinMap as finite;
-ghost use Rattle.rpm_report.specs.Prelude.{Anywhere, bad_at, bad_parts, ErrTakes, fails, IsAskable, IsOfPrint, IsPackageRead, packages_in, PartIs, ReadsBy, halt_of_check, TellsErr};
+ghost use Rattle.rpm_report.specs.Prelude.{Anywhere, bad_at, bad_parts, ErrTakes, IsAskable, IsOfPrint, IsPackageRead, packages_in, PartIs, ReadsBy, halt_of_check, TellsErr};
 
 use rpm_check::CheckFault;
 use rpm_db::{Db, GetFault};

@@ -1,7 +1,7 @@
 //! `AnswersPlain` of the theorem: what verifying says of all packages.
 
 ghost use Rattle.std.specs.Prelude.{◌≡◌, ◌≢◌, ◌+◌, ◌≤◌, [], ◌∷◌, true, false, IsTrue, Err, IfErr};
-ghost use Rattle.rpm_report.specs.Prelude.{bearer, package_cost, packages_cost, DiskFault, Everything, Hand, held_bytes, is_foreign, is_of_opening, IsAskable, IsOfPrint, OnlyReads, OutTakes, PartIs, Pkg, pkg_read, PutsOut, reached_by, store_of, unsound, verdict, verdict_part, verify, CommandProgress};
+ghost use Rattle.rpm_report.specs.Prelude.{bearer, package_cost, packages_cost, DiskFault, Everything, Hand, is_foreign, is_of_opening, IsAskable, IsOfPrint, OnlyReads, OutTakes, PartIs, Pkg, pkg_read, PutsOut, reached_by, store_of, unsound, verdict, verdict_part, verify, CommandProgress};
 ghost use Rattle.rpm_db.specs.Database as database;
 
 use itoa::Buffer;

@@ -18,13 +18,11 @@ unfolding glob pieces_behind piece_at
 selves = (refl, refl, refl, refl, refl)
 
 six : with_name (without_bytes is_dash_or_dot (Some (codes "x"))) (Some (codes "n-m")) (without_bytes is_dash (Some (codes "1")))
-    (without_bytes is_dash (Some (codes "2")))
-    ≡ codes "n-m" ∷ codes "n-m.x" ∷ codes "n-m-1" ∷ codes "n-m-1.x" ∷ codes "n-m-1-2" ∷ codes "n-m-1-2.x" ∷ []
+    (without_bytes is_dash (Some (codes "2"))) ≡ codes "n-m" ∷ codes "n-m.x" ∷ codes "n-m-1" ∷ codes "n-m-1.x" ∷ codes "n-m-1-2" ∷ codes "n-m-1-2.x" ∷ []
 six = refl
 
 few : with_name (without_bytes is_dash_or_dot (Some (codes "x.y"))) (Some (codes "n")) (without_bytes is_dash (Some (codes "1-1")))
-    (without_bytes is_dash (Some (codes "2")))
-    ≡ codes "n" ∷ []
+    (without_bytes is_dash (Some (codes "2"))) ≡ codes "n" ∷ []
 few = refl
 
 names : names_in (codes "n-m-1-2.x") ≡ codes "n-m-1-2.x" ∷ codes "n-m-1-2" ∷ codes "n-m-1" ∷ codes "n-m" ∷ []

@@ -20,5 +20,6 @@ pub mod Serving
 pub mod Unclosed
 pub mod Unpicked
 pub mod Vocabulary
+pub mod Within
 pub mod Complete
 pub mod Cuts

@@ -2,7 +2,6 @@
 use Rattle.rpm_select.proofs.Vocabulary.{Database, entry_in, filter, is_picked, IsNext, nat_cmp, next_above, OneOf, Package, packages, Picked, picks_at}
 use Rattle.rpm_select.proofs.Vocabulary.{Reach, reaches, store_of, Selection, Serves, Units}
 use Rattle.std.proofs.Common.{◌≡◌, ℕ, ◌+◌, ◌-◌, ◌<◌, ◌≤◌, ◌==◌, [], ◌∷◌, true, false, Option, Some, None, Ok, refl, sym, ap, ◌∙◌, subst, inl, inr, arith}
-use Rattle.std.specs.Prelude.{nat_le}
 use Rattle.std.specs.FinMap as finite
 use Rattle.std.proofs.lemmas.Bool.{cases_Bool}
 use Rattle.std.proofs.lemmas.Bool.Decides.{nat_tests}
@@ -89,10 +88,3 @@ module _ (r : Reach) (file : Units) (db : Database) (sel : Selection) (serves : 
       ap (any_to n) (skip (packages file (store_of db)) sel k n le (λ q p a b there. unpicked r file db sel serves q p (next.2 q a (omega (arith, b, beyond)))
       there))
       ∙ none_so_far (is_picked sel) n n (omega arith) (finite.entries (packages file (store_of db)))
-
-  pub one_to : (n k m : ℕ) (picked : Picked) → IsNext (reaches r db) k (Some m) → Found (packages file (store_of db)) sel m picked → m ≤ n
-      → any_to n (left (packages file (store_of db)) sel k) ≡ true
-  one_to n k m picked next found within =
-      let test : nat_le m n ≡ true = grind (arith, nat_tests) in
-      ap (any_to n) (picked_next k m picked next found) ∙ ap (λ (e : ℕ × Package). any_to n (e ∷ left (packages file (store_of db)) sel m)) found.entry
-      ∙ rw test refl

@@ -1,7 +1,7 @@
 -- The words of proofs, from one place.
 pub use Rattle.rpm_db.specs.laws.Above.{both_true, is_below, next_above, none_below}
 pub use Rattle.rpm_db.specs.Answers.{key_chain}
-pub use Rattle.rpm_db.specs.Database.{package_cost, packages_cost, packages_cost_to, Database, is_indexed, IsNext, Keeps, KeepsIndex}
+pub use Rattle.rpm_db.specs.Database.{package_cost, packages_cost_to, Database, is_indexed, IsNext, Keeps, KeepsIndex}
 pub use Rattle.rpm_db.specs.Frame.{IsStoreKept}
 pub use Rattle.rpm_db.specs.Database.{store_of}
 pub use Rattle.rpm_db.specs.Lawful.{HasRows}
@@ -28,10 +28,10 @@ pub use Rattle.rpm_select.specs.Glob.{Byte, is_close, is_member, Piece, pieces, 
 unfoldable pub use Rattle.rpm_select.specs.Glob.{glob, piece_at, pieces_behind}
 pub use Rattle.rpm_version.specs.Evr.{is_dash}
 pub use Rattle.rpm_select.specs.Labels.{is_dash_or_dot, with_name, without_bytes}
-pub use Rattle.rpm_select.specs.Picks.{entry_in, NextIs, NextNumberIs, number_in, package_in, ReadsOwn}
-pub use Rattle.rpm_select.specs.Reach.{asks_index, Everything, HasChain, is_in, IsFaultOfOne, keys_cost, Reach, reach, reach_all, reach_to, reaches, Serves, These}
-pub use Rattle.rpm_select.specs.Reach.{unindexed_reach}
-pub use Rattle.rpm_select.specs.Recents.{has_recent_number, IsHeld, IsOf, picks_at, Recalls}
+pub use Rattle.rpm_select.specs.Picks.{cost_after, entry_in, NextIs, NextNumberIs, number_in, package_in, ReadsOwn}
+pub use Rattle.rpm_select.specs.Reach.{asks_index, Everything, HasChain, is_in, IsFaultOfOne, keys_cost, Reach, reach, reach_after, reach_all, reach_to, reaches}
+pub use Rattle.rpm_select.specs.Reach.{Serves, These, unindexed_reach}
+pub use Rattle.rpm_select.specs.Recents.{IsHeld, IsOf, picks_at, Recalls}
 pub use Rattle.rpm_select.specs.Selections.{has_any, is_text_among, is_elsewhere, is_picked, meets_capability, takes_read}
 unfoldable pub use Rattle.rpm_select.specs.Selections.{picks, takes_header}
 pub use Rattle.rpm_select.specs.declared.picked.PickFault.{PickFault}
@@ -52,6 +52,7 @@ pub use Rattle.rpm_select.specs.inner.Reaching.{reach_of}
 pub use Rattle.rpm_select.specs.laws.Rising.{AreAbove, commute, Rises, rises, same_members}
 pub use Rattle.rpm_select.specs.inner.Single.{OneIs, OneOf}
 pub use Rattle.rpm_select.specs.inner.Unclosed.{IsUnclosed}
+pub use Rattle.rpm_select.specs.inner.Within.{upper_end, NextWithin}
 pub use Rattle.rpm_tags.specs.Keys.{key_list, keys}
 pub use Rattle.rpm_tags.specs.Kinds.{code_of}
 pub use Rattle.rpm_tags.specs.declared.kind.Kind.{Kind}

@@ -1,4 +1,5 @@
 -- The texts by which a package is named.
+use Rattle.rpm_version.specs.Evr.{is_dash}
 use Rattle.std.specs.Prelude.{ℕ, List, [], ◌∷◌, ◌++◌, Bool, ◌==◌, ◌||◌, if◌then◌else◌, Option, Some, None}
 use Rattle.std.specs.List.{list_any}
 use Rattle.rpm_header.specs.Header.{Header}
@@ -6,10 +7,6 @@ use Rattle.std.specs.Str.{bytes_eq}
 use Rattle.rpm_tags.specs.Numbers.{ARCH, NAME, RELEASE, VERSION}
 use Rattle.rpm_tags.specs.Value.{first_text}
 use Rattle.rpm_select.specs.Glob.{glob}
-
--- the byte of -
-abbrev pub is_dash : ℕ → Bool
-is_dash b = b == 45
 
 -- the byte of - or of .
 abbrev pub is_dash_or_dot : ℕ → Bool

@@ -2,6 +2,7 @@ pub mod Candidates
 pub mod Frame
 pub mod Glob
 pub mod Labels
+pub mod Needs
 pub mod Picks
 pub mod Prelude
 pub mod Providing

@@ -39,9 +39,10 @@ pub use Rattle.rpm_select.specs.declared.picked.PickFault.TheVariants.{NoMemory}
 pub use Rattle.rpm_select.specs.inner.Asking.{NumbersOfKey, AreWith, is_byte, name_keys}
 pub use Rattle.rpm_select.specs.inner.Indexed.{HasIndex}
 pub use Rattle.rpm_select.specs.inner.Members.{first_has, first_len, is_member_range}
-pub use Rattle.rpm_select.specs.inner.Needs.{needed_in}
+pub use Rattle.rpm_select.specs.Needs.{needed_in}
 pub use Rattle.rpm_select.specs.inner.Pieces.{piece_in, written_in}
 pub use Rattle.rpm_select.specs.inner.Reaching.{AreNumbersRising, reach_of}
 pub use Rattle.rpm_select.specs.inner.Single.{IsNumbered, OneIs, OneOf, TakenIs}
 pub use Rattle.rpm_select.specs.inner.Steps.{LeavesUnclosed, MoveIs}
 pub use Rattle.rpm_select.specs.inner.Unclosed.{IsUnclosed}
+pub use Rattle.rpm_select.specs.inner.Within.{NextWithin, upper_end}

@@ -2,9 +2,9 @@
 pub mod Asking
 pub mod Indexed
 pub mod Members
-pub mod Needs
 pub mod Pieces
 pub mod Reaching
 pub mod Single
 pub mod Steps
 pub mod Unclosed
+pub mod Within

@@ -1,7 +1,7 @@
 //! The packages that a question picks, one at a time.
 
-ghost use Rattle.std.specs.Prelude.{◌≡◌, ◌<◌, IsTrue, IsOk, IfOk, IfSome, Ok, ◌+◌, ◌≤◌, false};
-ghost use Rattle.rpm_select.specs.Prelude.{above, AnyIs, AsksPackages, asks_index, AsksIndex, cost_after, packages_cost_to, IsNext, IsStrictlyIncreasing, IsStoreKept, IsIndexKept, keys_asked, OnlyReads, NextIs, number_in, packages_in, picks, Pkg, reach, reach_after, reach_to, reaches, ReadsOwn, Serves, These, unindexed_reach};
+ghost use Rattle.std.specs.Prelude.{◌≡◌, ◌<◌, IsTrue, IsOk, IfOk, IfSome, Ok, ◌+◌, ◌-◌, ◌≤◌, false};
+ghost use Rattle.rpm_select.specs.Prelude.{above, AnyIs, AsksPackages, asks_index, AsksIndex, cost_after, packages_cost_to, upper_end, IsNext, IsStrictlyIncreasing, IsStoreKept, IsIndexKept, keys_asked, OnlyReads, NextIs, NextWithin, number_in, packages_in, picks, Pkg, reach, reach_after, reach_to, reaches, ReadsOwn, Serves, These, unindexed_reach};
 ghost use Rattle.rpm_select.specs.Frame.{HasKeptRows};
 
 use crate::asking::numbers_asked;
@@ -124,6 +124,44 @@ impl Picker {
         }
     }
 
+    /// The package that is picked with the least number above n, if this is at most `last`.
+    fn next_within<D: Disk>(
+        &mut self,
+        alloc: Global,
+        db: &Db,
+        disk: &mut D,
+        selection: &Selection<'_>,
+        n: u32,
+        last: u32,
+    ) -> Result<Option<Picked>, PickFault>
+        requires keeps { IsStoreKept D.Disk disk.old db.now }
+        requires runs { db.now.stopped ≡ false }
+        requires order { n ≤ last }
+        ensures told { IsTrue D.tells → Serves self.old (packages_in D.Disk disk.old db.now) selection.now
+            → NextWithin last (above n (picks (packages_in D.Disk disk.old db.now) selection.now)) result }
+        ensures same { self.new ≡ self.old }
+        ensures reads { D.bytes_read disk.new File.Pkg ≤ D.bytes_read disk.old File.Pkg
+            + (reach_to (upper_end last result) self.old db.now - reach_to n self.old db.now) }
+        ensures rises { IfOk result (λ o. IfSome o (λ picked. n < number_in picked)) }
+        ensures up_to { IfOk result (λ o. IfSome o (λ picked. number_in picked ≤ last)) }
+        ensures asks { AsksPackages D.Disk (packages_cost_to (upper_end last result) db.now - packages_cost_to n db.now) disk.old disk.new db.now result }
+        ensures own { ReadsOwn selection.now db.now (D.bytes_read disk.old File.Pkg) (D.bytes_read disk.new File.Pkg) }
+    {
+        let mut room = replace(&mut self.room, Vec::new(alloc));
+        let mut passed = n;
+        while let Some(next) = self.next_number(db, passed) {
+            if next > last {
+                break;
+            }
+            match pick(alloc, db, disk, selection, next, &mut room) {
+                Ok(None) => passed = next,
+                Ok(Some(picked)) => return Ok(Some(picked)),
+                Err(fault) => return Err(fault),
+            }
+        }
+        Ok(None)
+    }
+
     /// The package that is picked with the least number above n; None exactly where there is none.
     ///
     /// Reads the blocks of the numbers that it goes over above n, up to the one that is given or all of them, each
@@ -154,16 +192,7 @@ impl Picker {
         ensures asks { AsksPackages D.Disk (cost_after n db.now result) disk.old disk.new db.now result }
         ensures own { ReadsOwn selection.now db.now (D.bytes_read disk.old File.Pkg) (D.bytes_read disk.new File.Pkg) }
     {
-        let mut room = replace(&mut self.room, Vec::new(alloc));
-        let mut passed = n;
-        while let Some(next) = self.next_number(db, passed) {
-            match pick(alloc, db, disk, selection, next, &mut room) {
-                Ok(None) => passed = next,
-                Ok(Some(picked)) => return Ok(Some(picked)),
-                Err(fault) => return Err(fault),
-            }
-        }
-        Ok(None)
+        self.next_within(alloc, db, disk, selection, n, u32::MAX)
     }
 
     /// Whether some number from 1 to n is picked.
@@ -191,18 +220,9 @@ impl Picker {
         ensures asks { AsksPackages D.Disk (packages_cost_to n db.now) disk.old disk.new db.now result }
         ensures own { ReadsOwn selection.now db.now (D.bytes_read disk.old File.Pkg) (D.bytes_read disk.new File.Pkg) }
     {
-        let mut room = replace(&mut self.room, Vec::new(alloc));
-        let mut passed = 0;
-        while let Some(next) = self.next_number(db, passed) {
-            if next > n {
-                return Ok(false);
-            }
-            match pick(alloc, db, disk, selection, next, &mut room) {
-                Ok(None) => passed = next,
-                Ok(Some(_)) => return Ok(true),
-                Err(fault) => return Err(fault),
-            }
+        match self.next_within(alloc, db, disk, selection, 0, n) {
+            Ok(found) => Ok(found.is_some()),
+            Err(fault) => Err(fault),
         }
-        Ok(false)
     }
 }

@@ -2,16 +2,12 @@
 use Rattle.std.specs.Prelude.{◌≡◌, ℕ, List, Option, Some, slice_get, All, IfSome}
 use Rattle.rpm_header.specs.Header.{Header}
 use Rattle.rpm_tags.specs.declared.tag.Tag.{Tag}
-use Rattle.rpm_tags.specs.Value.{value}
+use Rattle.rpm_tags.specs.Value.{Elements, value}
 use Rattle.rpm_qfeval.specs.declared.columns.Found.{Found}
-use Rattle.rpm_qfeval.specs.declared.columns.Reading.{Reading}
-use Rattle.rpm_qfeval.specs.declared.columns.Reading.TheVariants as reading
 
--- what reads is over the value
-abbrev pub IsColumn : Found → Reading → Type 0
-IsColumn found reading.Placed = Unit {0}
-IsColumn found (reading.Stored value) = found.value ≡ Some value
-IsColumn found (reading.Joined value) = found.value ≡ Some value
+-- the texts that are read are those of the value
+abbrev pub IsColumn : Found → Option Elements → Type 0
+IsColumn found texts = IfSome texts (λ value. found.value ≡ Some value)
 
 -- what is kept of a tag is its value
 abbrev pub IsValue : Header → ℕ → Found → Type 0

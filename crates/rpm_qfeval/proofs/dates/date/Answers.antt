@@ -20,8 +20,8 @@ returns c =
     (search rules) ∙ is.weekday in
     let month : (get_or m.month 0 0 ∷ get_or m.month 1 0 ∷ get_or m.month 2 0 ∷ []) ≡ month_name (month_of (c.args.second / 86400)) = three m.month
     (search rules) ∙ is.month in
-    let day : (get_or c.spaced.result 0 0 ∷ get_or c.spaced.result 1 0 ∷ [])
-    ≡ spaced_number (day_of (c.args.second / 86400)) = rw (c.spaced.ensures, is.day) refl in
+    let day : (get_or c.spaced.result 0 0 ∷ get_or c.spaced.result 1 0 ∷ []) ≡ spaced_number (day_of (c.args.second / 86400)) =
+    rw (c.spaced.ensures, is.day) refl in
     let hour = pair m.hour (c.args.second % 86400 / 3600) c.two.result c.two.ensures is.hour in
     let minute = pair m.minute (c.args.second % 86400 / 60 % 60) c.two-2.result c.two-2.ensures is.minute in
     let second = pair m.second (c.args.second % 86400 % 60) c.two-3.result c.two-3.ensures is.second in

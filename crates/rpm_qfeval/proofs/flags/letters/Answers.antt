@@ -28,8 +28,7 @@ loop-bit-preserved c =
           let items : c.if-has.letters.items ≡ c.loop-bit.letters.items ++ row.1 ∷ [] = ap (λ v. v.items) w.letters-is ∙ w.push.ensures.items in
           record {
             few = omega (arith, ap length items, length-append c.loop-bit.letters.items (row.1 ∷ []), c.loop-bit.invariant.few);
-            whole =
-                ap (λ (x : List ℕ). x ++ bit_letters rest c.args.number) items
+            whole = ap (λ (x : List ℕ). x ++ bit_letters rest c.args.number) items
                 ∙ append_assoc c.loop-bit.letters.items (row.1 ∷ []) (bit_letters rest c.args.number)
                 ∙ ap (λ (x : List ℕ). c.loop-bit.letters.items ++ x)
                 (sym (ap (λ rows. bit_letters rows c.args.number) at ∙ with_letter row.0 row.1 c.args.number rest set)) ∙ c.loop-bit.invariant.whole;

@@ -3,29 +3,28 @@ use Rattle.rpm_qfeval.proofs.Vocabulary.{bytes, parts_of_tree, upto_done, upto_m
 use Rattle.rpm_qfeval.proofs.Walked.{bytes_start, bytes_here, bytes_end}
 use Rattle.rpm_qfeval.proofs.inside.+inside.Goals as goal
 
-pub put_inner_parts-loop-i-init : goal.put_inner_parts-loop-i-init
-put_inner_parts-loop-i-init g t c =
-    (refl, upto_start g.met.O.Sink.follows_refl (sym (bytes_start c.args.view.now c.args.number c.args.round c.args.parts.now)))
-
-pub put_inner_parts-loop-i-preserved : goal.put_inner_parts-loop-i-preserved
-put_inner_parts-loop-i-preserved g t c = (
-  c.in_ok-put_inner_part.ensures.same ∙ c.loop-i.invariant.0,
-  upto_more g.met.O.Sink.follows_trans (bytes_here c.args.view.now c.args.number c.args.round
-      c.loop-i.i c.args.parts.now c.at.result.now c.at.ensures.value) c.loop-i.invariant.1 c.in_ok-put_inner_part.ensures.puts,
-)
-
-pub put_inner_parts-returns-in_err-put_inner_part : goal.put_inner_parts-returns-in_err-put_inner_part
-put_inner_parts-returns-in_err-put_inner_part g t c = record {
-  puts = upto_stop g.met.O.Sink.follows_trans _ c.from_residual.result c.from_residual.ensures.0 (bytes_here c.args.view.now c.args.number
-      c.args.round c.loop-i.i c.args.parts.now c.at.result.now c.at.ensures.value) c.loop-i.invariant.1 c.in_err-put_inner_part.ensures.puts;
-  same = c.in_err-put_inner_part.ensures.same ∙ c.loop-i.invariant.0;
+pub put_round-loop-i-init : goal.put_round-loop-i-init
+put_round-loop-i-init g t c = record {
+  columns = refl;
+  ready = refl;
+  upto = upto_start g.met.O.Sink.follows_refl (sym (bytes_start c.args.view.now c.args.number c.args.round c.args.inner.now));
 }
 
-pub put_inner_parts-returns : goal.put_inner_parts-returns
-put_inner_parts-returns g t c =
-    let le : length (parts_of_tree c.args.parts.now) ≤ c.loop-i.i = omega arith in
-    record {
-      puts = upto_done {all = bytes c.args.view.now c.args.number c.args.round c.args.parts.now} (bytes_end c.args.view.now c.args.number
-          c.args.round c.loop-i.i c.args.parts.now le) c.loop-i.invariant.1;
-      same = c.loop-i.invariant.0;
-    }
+pub put_round-loop-i-preserved : goal.put_round-loop-i-preserved
+put_round-loop-i-preserved g t c = record {
+  columns = c.in_ok-put_part_at.ensures.columns ∙ c.loop-i.invariant.columns;
+  ready = c.in_ok-put_part_at.ensures.ready ∙ c.loop-i.invariant.ready;
+  upto = upto_more g.met.O.Sink.follows_trans (bytes_here c.args.view.now c.args.number c.args.round
+      c.loop-i.i c.args.inner.now c.at.result.now c.at.ensures.value) c.loop-i.invariant.upto c.in_ok-put_part_at.ensures.puts;
+}
+
+pub put_round-returns-in_err-put_part_at-clause-puts : goal.put_round-returns-in_err-put_part_at-clause-puts
+put_round-returns-in_err-put_part_at-clause-puts g t c =
+    upto_stop g.met.O.Sink.follows_trans _ c.from_residual.result c.from_residual.ensures.0 (bytes_here c.args.view.now c.args.number
+    c.args.round c.loop-i.i c.args.inner.now c.at.result.now c.at.ensures.value) c.loop-i.invariant.upto c.in_err-put_part_at.ensures.puts
+
+pub put_round-returns-clause-puts : goal.put_round-returns-clause-puts
+put_round-returns-clause-puts g t c =
+    let le : length (parts_of_tree c.args.inner.now) ≤ c.loop-i.i = omega arith in
+    upto_done {all = bytes c.args.view.now c.args.number c.args.round c.args.inner.now} (bytes_end c.args.view.now c.args.number
+    c.args.round c.loop-i.i c.args.inner.now le) c.loop-i.invariant.upto

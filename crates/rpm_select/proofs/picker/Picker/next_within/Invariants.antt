@@ -3,12 +3,13 @@ use Rattle.std.proofs.Common.{◌≡◌, ◌≤◌, ◌+◌, ◌-◌, ◌^◌}
 use Rattle.std.specs.Prelude.{IsTrue}
 use Rattle.rpm_select.proofs.Owning.{ReadsOwnTo}
 use Rattle.rpm_select.proofs.Picking.{left}
-use Rattle.rpm_select.proofs.picker.Picker.next_after.Given as goal
+use Rattle.rpm_select.proofs.picker.Picker.next_within.Given as goal
 
 abbrev pub invariant-loop-next : goal.invariant-loop-next
 invariant-loop-next g l = record {
   keeps : IsTrue g.D.Disk.tells → Keeps (g.D.Disk.files l.disk).pkg l.db;
   later : l.n ≤ l.passed;
+  below : l.passed ≤ l.last;
   more : packages_cost_to l.n l.db ≤ packages_cost_to l.passed l.db;
   looks : OnlyReads g.D.Disk Pkg
       (packages_cost_to l.passed l.db - packages_cost_to l.n l.db) l.initial.disk l.disk;
