@@ -114,8 +114,9 @@ def faults_of_crates(texts):
 def faults_of_fields(texts):
     """Fields that README.md and docs/PROVED.md name and the theorem doesn't have, and the other way round."""
     specs, proved = TOP / "crates" / "rpm_tool" / "specs", TOP / "docs" / "PROVED.md"
-    fields = named(FIELD, specs, "*.antt")
-    page = (specs / "Theorem.antt").read_text(encoding="utf-8").partition("-- 1. ")[2]
+    changes = (TOP / "crates" / "rpm_commit" / "specs" / "Answers.antt").read_text(encoding="utf-8")
+    fields = named(FIELD, specs, "*.antt") | set(FIELD.findall(changes))
+    page = (specs / "Theorem.antt").read_text(encoding="utf-8").partition("-- 1. ")[2] + changes
     yield from ((proved, 1, f"the theorem's field {name} isn't named") for name in FIELD.findall(page)
                 if not re.search(rf"`(?:\w+\.)?{name}`", texts[proved]))
     for path in (TOP / "README.md", proved):

@@ -1,7 +1,7 @@
 -- The packages that rebuilding drops, by rising number.
 use Rattle.std.proofs.Common.{◌≡◌, ℕ, ◌<◌, ◌≤◌, Ok, true, false, Option, Some, None, is_some, refl, sym, ap, ◌∙◌, arith, nat_eq, Err, Result}
 use Rattle.rpm_outside.specs.declared.disk.Disk as disk
-use Rattle.rpm_change.proofs.Vocabulary.{above, apply_all, Bad, Course, Database, drop_each, dropped_course, eq_by_cmp, Good, Halt, HasCauseAt, idle}
+use Rattle.rpm_change.proofs.Vocabulary.{above, apply_all, Bad, by_index, Course, Database, drop_each, dropped_course, eq_by_cmp, Good, Halt, HasCauseAt, idle}
 use Rattle.rpm_change.proofs.Vocabulary.{IsGathering, IsNext, IsOwing, joined_courses, EndStateBy, OnlyReads, looks_run, nat_cmp, next_above, none_is, none_made}
 use Rattle.rpm_change.proofs.Vocabulary.{nothing_above, OwesOn, Package, Pkg, store_of, RowChange, runs_looks, SameLog, serving_read, State, state_in}
 use Rattle.rpm_change.proofs.Vocabulary.{Tally, no_tally, unsigned_tied, ProgressOwing}
@@ -103,8 +103,8 @@ module _ {D : Type 0} (d : disk.Ghosts D) {most : ℕ} {old new : D} {db : Datab
       let same = λ (told : IsTrue d.tells). (looks.untouched told).same in
       record {
         ended = λ told. rw (same (tells told)) (ends (state_in d old db));
-        limits = λ told i rows.
-            rw (same (tells told)) (none_made i (state_in d old db) (store_of db) (store_of db) no_tally refl);
+        limits = λ told. by_index (λ i rows.
+            rw (same (tells told)) (none_made i (state_in d old db) (store_of db) (store_of db) no_tally refl));
         whole = λ told was. rw (same told) was;
         bad = λ told. tt;
         given = λ told. record { adds = sym (append-nil owed.adds) };

@@ -7,7 +7,7 @@ use Rattle.rpm_db.specs.State.{State}
 use Rattle.rpm_change.specs.Progress.{OwesAdded}
 use Rattle.std.specs.Prelude.{IsTrue}
 use Rattle.rpm_outside.specs.declared.disk.Disk as disk
-use Rattle.rpm_change.proofs.Vocabulary.{Change, ChangeFault, course_of_change, Database, fault_kind, fault_spent, SingleFaultIs, FullCause, GathersOne, Gathers}
+use Rattle.rpm_change.proofs.Vocabulary.{by_index, Change, ChangeFault, course_of_change, Database, fault_kind, fault_spent, SingleFaultIs, FullCause, GathersOne, Gathers}
 use Rattle.rpm_change.proofs.Vocabulary.{generation_of, halt_of, halted_went, HasCauseAt, HasNumber, is_indexed, IsLeftSuspended, IsWholeIndex}
 use Rattle.rpm_change.proofs.Vocabulary.{units_needed_after, next-state, next_package_number, one_made, one_refused, ReachesTo, refused_quietly, store_of, RowChange, Runs}
 use Rattle.rpm_change.proofs.Vocabulary.{SameLog, state_in, Tally, through_none, WholeCause}
@@ -36,9 +36,9 @@ module _ {D : Type 0} (d : disk.Ghosts D) {A : Type 0} (change : Change) {old ne
         went = record {
           ended = λ told ot et o e.
               record { steps = through_none {ot = ot} {et = et} o e; failed = refl; changes = refl; state_is = made.state_is told };
-          limits = λ told i rows.
+          limits = λ told. by_index (λ i rows.
               one_made i (state_in d old before) change (store_of before) (store_of after) changed number unspent gathers.room made.generation
-              (λ is. gathers.full told (rows is)) (end told) (λ is. made.reach told (rows is));
+              (λ is. gathers.full told (rows is)) (end told) (λ is. made.reach told (rows is)));
           whole = λ told whole. rw (index told) whole;
           bad = λ told. tt;
           given = λ told. rows_owed (made.rows told);

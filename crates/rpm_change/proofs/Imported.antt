@@ -1,6 +1,6 @@
 -- What adding one header of a list is.
 use Rattle.std.proofs.Common.{◌≡◌, ℕ, Bool, true, List, Result, Ok, Err, refl, ap, min}
-use Rattle.rpm_change.proofs.Vocabulary.{Add, add_fault, AddAnswer, Buffered, ChangeFault, Course, Database, EndedOnErr}
+use Rattle.rpm_change.proofs.Vocabulary.{Add, add_fault, AddAnswer, at_index, Buffered, by_index, ChangeFault, Course, Database, EndedOnErr}
 use Rattle.rpm_change.proofs.Vocabulary.{Files, FullCause, Halt, halt_of, Header, header, imported_header, left_after}
 use Rattle.rpm_change.proofs.Vocabulary.{limits_counted, LimitsTurn, next, next_package_number, next_store, once, one_refused, other_stop, store_of, RoomCause}
 use Rattle.rpm_change.proofs.Vocabulary.{State, state_in, stop_by, Store, Tally, ProgressInBoth}
@@ -8,19 +8,19 @@ use Rattle.rpm_outside.specs.declared.disk.Disk as disk
 use Rattle.rpm_outside.specs.declared.sink.Sink as sink
 use Rattle.rpm_db.specs.declared.change_fault.ChangeFault.TheVariants as fault
 use Rattle.rpm_effects.specs.declared.tally.Halt.TheVariants as halt
-use Rattle.rpm_change.specs.Limits.{needed_index}
+use Rattle.rpm_db.specs.Reaches.{units_needed_after}
 
 -- a header that is refused
 module _ {old new : Files} (i : Bool) (db : Database) (s : State) (w : Store) (k : ℕ) (bytes : List ℕ) (law : next s ≡ next_package_number db) where
   read_limits : (f : ChangeFault) (h : Header) → header bytes ≡ Ok h → AddAnswer {A = ℕ} db bytes (Err f) → RoomCause (next_store (Add h.blob) (store_of db)) f
-      → (i ≡ true → FullCause (needed_index s (Add h.blob)) f) → LimitsTurn i s (store_of db) w old new (imported_header k (header bytes)).changes
+      → (i ≡ true → FullCause (units_needed_after s (Add h.blob)) f) → LimitsTurn i s (store_of db) w old new (imported_header k (header bytes)).changes
       (Err (halt_of f))
   read_limits f h read cause place full =
       rw read (one_refused i s (Add h.blob) (store_of db) w f (add_fault i ℕ db s bytes h.blob f law cause place full))
 
   pub add_limits : (f : ChangeFault) → AddAnswer {A = ℕ} db bytes (Err f)
       → ((h : Header) → header bytes ≡ Ok h → RoomCause (next_store (Add h.blob) (store_of db)) f)
-      → (i ≡ true → (h : Header) → header bytes ≡ Ok h → FullCause (needed_index s (Add h.blob)) f)
+      → (i ≡ true → (h : Header) → header bytes ≡ Ok h → FullCause (units_needed_after s (Add h.blob)) f)
       → LimitsTurn i s (store_of db) w old new (imported_header k (header bytes)).changes (Err (halt_of f))
   add_limits fault.NumbersSpent cause place full = read_limits fault.NumbersSpent cause.0.own cause.0.read cause tt (λ is. tt)
   add_limits (fault.BadHeader why) cause place full = other_stop i s (store_of db) w (imported_header k (header bytes)).changes halt.NoMemory refl
@@ -40,7 +40,9 @@ module _ {D S T : Type 0} (d : disk.Ghosts D) (e : sink.Ghosts S) {old new : D} 
     ended = λ told ot o.
         (let done = w.ended told ot o in
         record { steps = done.steps; failed = ap (min 1) done.failed; changes = done.changes; state_is = done.state_is });
-    limits = λ told i rows. limits_counted i (state_in d old before) (store_of before) (store_of after) course.changes tally _ (w.limits told i rows);
+    limits =
+        λ told. by_index (λ i rows. limits_counted i (state_in d old before) (store_of before) (store_of after) course.changes tally _
+        (at_index (w.limits told) i rows));
     whole = w.whole;
     bad = w.bad;
     given = w.given;

@@ -3,6 +3,7 @@ pub mod Dropped
 pub mod Erased
 pub mod Filed
 pub mod Gathered
+pub mod Halted
 pub mod Imported
 pub mod Listed
 pub mod Rebuilt

@@ -12,4 +12,4 @@ pub remade_limits : {D : Type 0} (d : disk.Ghosts D) {old mid new : D} (before :
     {E : Course → State → State → Result Tally Halt → Type 0} → (IsTrue d.tells → Remade (d.files old) (d.files mid)) → store_of db ≡ store_of before
     → (IsTrue d.tells → IsIndexed d mid db) → ProgressInBoth d (IsTrue d.tells) mid new db after r E (rebuild (state_in d mid db)) → IsTrue d.tells
     → LimitsTurn true (state_in d old before) (store_of before) (store_of after) (d.files mid) (d.files new) (rebuild (state_in d old before)).changes r
-remade_limits d before made store indexed went told = rw (← (made told).pkg, ← store) (went.limits told true (λ is. indexed told))
+remade_limits d before made store indexed went told = rw (← (made told).pkg, ← store) ((went.limits told).indexed (indexed told))

@@ -21,6 +21,7 @@ pub use Rattle.rpm_change.specs.laws.Parts.{Going, going_end, going_more, going_
 pub use Rattle.rpm_change.specs.laws.Handing.{err_is}
 pub use Rattle.rpm_effects.specs.laws.Joins.{err_joins, err_none, err_refused, err_stopped, hand_then, out_gone, out_joins, out_none, out_refused}
 pub use Rattle.rpm_effects.specs.laws.Joins.{out_stopped, took, no_tally}
+pub use Rattle.rpm_change.specs.inner.IndexLaws.{at_index, by_index}
 pub use Rattle.rpm_change.specs.laws.Leaving.{halted_by, left_after, none_by, remade_log, remade_then, then_by, whole_halt}
 pub use Rattle.rpm_change.specs.laws.LimitLaws.{limits_counted, makes_small}
 pub use Rattle.rpm_change.specs.laws.ReachLaws.{idx_more, reached_anew}

@@ -1,5 +1,7 @@
 pub mod Adding
+pub mod ByIndex
 pub mod Erasing
+pub mod Halting
 pub mod Importing
 pub mod Installs
 pub mod Limits
@@ -10,4 +12,5 @@ pub mod Reaches
 pub mod Rebuilding
 pub mod Singles
 pub mod Turns
+pub mod inner
 pub mod laws

@@ -1,5 +1,6 @@
 -- The limits that the changes of a command meet: going through them in order, the first that is refused decides.
-use Rattle.std.specs.Prelude.{◌≡◌, ℕ, ◌+◌, ◌^◌, ◌==◌, ◌&&◌, nat_lt, if◌then◌else◌, List, [], ◌∷◌, length, Bool, true}
+use Rattle.rpm_db.specs.Reaches.{units_needed_after}
+use Rattle.std.specs.Prelude.{◌≡◌, ◌+◌, ◌^◌, ◌==◌, ◌&&◌, nat_lt, if◌then◌else◌, List, [], ◌∷◌, length, Bool, true}
 use Rattle.std.specs.Prelude.{false, Option, Some, None, is_none, unwrap_or, Result, Ok, Err, OnOk}
 use Rattle.std.specs.Option.{option_or, option_and_then}
 use Rattle.rpm_hindex.specs.Sizes.{units_for}
@@ -21,13 +22,9 @@ abbrev pub is_spent : State → Change → Bool
 is_spent s (Add bytes) = next s == 4294967295
 is_spent s others = false
 
--- the units of an index of the packages after it
-abbrev pub needed_index : State → Change → ℕ
-needed_index s change = units_for (rows (apply change s).packages)
-
 -- the index that it leaves is too large
 abbrev pub is_large : State → Change → Bool
-is_large s change = nat_lt (2 ^ 28) (needed_index s change)
+is_large s change = nat_lt (2 ^ 28) (units_needed_after s change)
 
 -- what refuses it in this state and this store, the first that does: numbers, generations, places, and units, where the
 -- index is asked
@@ -36,7 +33,7 @@ limit_of_change indexed s value change =
     if is_spent s change then Some halt.NumbersSpent
     else if value.generation == 4294967295 then Some halt.GenerationSpent
     else if is_none (next_store change value) then Some halt.StoreFull
-    else if indexed && is_large s change then Some (halt.IndexFull (needed_index s change))
+    else if indexed && is_large s change then Some (halt.IndexFull (units_needed_after s change))
     else None
 
 -- ---- several changes, one after the other

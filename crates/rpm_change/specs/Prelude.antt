@@ -21,6 +21,8 @@ pub use Rattle.rpm_effects.specs.Hands.{Hand, KeepsShelf}
 pub use Rattle.rpm_change.specs.Importing.{import_list, import_listed, listed_headers, max_headers}
 pub use Rattle.rpm_change.specs.Limits.{MeetsLimit, limit_of_command, next_stores}
 pub use Rattle.rpm_effects.specs.Lines.{Fails}
+pub use Rattle.rpm_effects.specs.Progress.{halt_of}
+pub use Rattle.rpm_change.specs.Halting.{IsHalting}
 pub use Rattle.rpm_change.specs.Reaches.{ChangesReachAnew}
 pub use Rattle.rpm_change.specs.Rebuilding.{IsOfRebuilding, dropped_course, dropped_line, rebuild}
 pub use Rattle.rpm_change.specs.Singles.{GathersOne, HasTarget}

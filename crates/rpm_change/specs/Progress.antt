@@ -1,5 +1,5 @@
 -- How a course went on a disk and a database: how far, which limit stopped it, and what it left.
-use Rattle.std.specs.Prelude.{◌≡◌, ℕ, List, ◌++◌, Bool, true, false, IsTrue, IfOk, OnOk, Result, Ok, Err}
+use Rattle.std.specs.Prelude.{◌≡◌, ℕ, List, ◌++◌, true, false, IsTrue, IfOk, OnOk, Result, Ok, Err}
 use Rattle.rpm_outside.specs.declared.disk.Disk as disk
 use Rattle.rpm_outside.specs.Files.{Files, Units}
 use Rattle.rpm_outside.specs.Frame.{DiskFault}
@@ -20,6 +20,7 @@ use Rattle.rpm_db.specs.Runs.{SameLog}
 use Rattle.rpm_effects.specs.declared.tally.Tally.{Tally}
 use Rattle.rpm_effects.specs.declared.tally.Halt.{Halt}
 use Rattle.rpm_effects.specs.declared.tally.Halt.TheVariants as halt
+use Rattle.rpm_change.specs.ByIndex.{ByIndex}
 use Rattle.rpm_change.specs.Limits.{LimitsTurn}
 use Rattle.rpm_change.specs.Reaches.{all_added}
 use Rattle.rpm_effects.specs.Steps.{Course}
@@ -61,13 +62,6 @@ module _ {D : Type 0} (d : disk.Ghosts D) where
     pub serving : Serving d new after
     pub index : IsTrue d.tells → IsIndexed d old before → IsIndexed d new after
 
-  -- the first of these changes that is refused decides; the index is asked where it held the rows
-  abbrev pub FirstLimitOn : D → D → Database → Database → List Change → Result Tally Halt → Type 0
-  FirstLimitOn old new before after changes r =
-      (indexed : Bool) → (indexed ≡ true → IsIndexed d old before)
-      → LimitsTurn indexed (state_in d old before) (store_of before) (store_of after) (d.files old)
-      (d.files new) changes r
-
   -- a database can be changed further, and its index holds the rows of its packages
   pub record IsCurrent (at : D) (db : Database) : Type 0 where
     pub ready : IsReady d at db
@@ -94,8 +88,8 @@ module _ {D : Type 0} (d : disk.Ghosts D) where
       (before after : Database) (r : Result Tally Halt) (Ends : Course → State → State → Result Tally Halt → Type 0)
       (course : Course) : Type 0 where
     pub ended : Told → Ends course (state_in d old before) (state_in d new after) r
-    pub limits : Told → (indexed : Bool) → (indexed ≡ true → Asked)
-        → LimitsTurn indexed (state_in d old before) (store_of before) (store_of after) from to course.changes r
+    pub limits : Told → ByIndex Asked (λ indexed. LimitsTurn indexed (state_in d old before) (store_of before)
+        (store_of after) from to course.changes r)
     pub whole : IsTrue d.tells → IsWholeIndex (d.files old).idx → WholeTurn (d.files new).idx r
     pub bad : IsTrue d.tells → BadTurn (d.files old).idx r
     pub given : Told → OnOk r (Given course.changes (state_in d old before))

@@ -3,6 +3,7 @@
 ghost use Rattle.std.specs.Prelude.{◌≡◌, ℕ, ◌+◌, ◌^◌, ◌<◌, Some, None, length, map, IsTrue, Ok, Err, IfOk, IfErr};
 ghost use Rattle.rpm_change.specs.Prelude.{add_files, EndedOnErr, Hand, IsGathering, HasTarget, KeepsShelf, IsOfPutting, IsReady, put_file, state_in, ProgressInBoth, ProgressOwing};
 
+use crate::halting::halt_of;
 use crate::install::read_installed;
 use crate::single::put_within;
 use rpm_db::{Batch, Db};
@@ -130,6 +131,8 @@ pub fn add_files<D: Disk, S: Shelf, E: Sink + Drop>(
 {
     let mut batch = Batch::begin(alloc, db);
     let tally = add_each(alloc, db, disk, shelf, &mut batch, paths, now, err)?;
-    batch.finish(alloc, db, disk)?;
-    Ok(tally)
+    match batch.finish(alloc, db, disk) {
+        Ok(()) => Ok(tally),
+        Err(fault) => Err(halt_of(fault)),
+    }
 }

@@ -3,6 +3,7 @@
 ghost use Rattle.std.specs.Prelude.{◌≡◌, ℕ, ◌+◌, ◌^◌, ◌<◌, length, IsTrue, Err, IfOk, IfErr};
 ghost use Rattle.rpm_change.specs.Prelude.{EndedOnErr, erase, erase_one, Hand, IsGathering, IsOfErasing, IsReady, state_in, ProgressInBoth, ProgressOwing};
 
+use crate::halting::halt_of;
 use crate::missing::put_missing;
 use rpm_db::{Batch, Db};
 use rpm_effects::{CHANGED, Halt, Tally};
@@ -26,8 +27,10 @@ fn erase_one<D: Disk, E: Sink + Drop>(
     ensures err { Hand E.Sink (result ≡ Err Halt.ErrFault) err.old err.new }
 {
     if db.holds(number) {
-        batch.erase(alloc, db, disk, number)?;
-        Ok(CHANGED)
+        match batch.erase(alloc, db, disk, number) {
+            Ok(()) => Ok(CHANGED),
+            Err(fault) => Err(halt_of(fault)),
+        }
     } else {
         put_missing(alloc, err, number)
     }
@@ -98,6 +101,8 @@ pub fn erase_numbers<D: Disk, E: Sink + Drop>(
 {
     let mut batch = Batch::begin(alloc, db);
     let tally = erase_each(alloc, db, disk, &mut batch, numbers, err)?;
-    batch.finish(alloc, db, disk)?;
-    Ok(tally)
+    match batch.finish(alloc, db, disk) {
+        Ok(()) => Ok(tally),
+        Err(fault) => Err(halt_of(fault)),
+    }
 }

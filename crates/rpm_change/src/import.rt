@@ -3,6 +3,7 @@
 ghost use Rattle.std.specs.Prelude.{◌≡◌, ◌^◌, ◌<◌, codes, IsTrue, Err, IfErr};
 ghost use Rattle.rpm_change.specs.Prelude.{bytes_at, EndedOnErr, Hand, KeepsShelf, import_list, import_listed, IsGathering, IsOfImporting, IsReady, bytes_left, listed_headers, max_headers, ProgressInBoth, ProgressOwing};
 
+use crate::halting::halt_of;
 use crate::turn::import_next;
 use rpm_db::{Batch, Db};
 use rpm_effects::{Halt, Tally, put_failing};
@@ -68,10 +69,13 @@ pub fn import_most<D: Disk, S: Shelf, E: Sink + Drop>(
         Ok(()) => {
             let mut batch = Batch::begin(alloc, db);
             let tally = import_all(alloc, db, disk, shelf, &mut batch, most, err)?;
-            batch.finish(alloc, db, disk)?;
-            let failed = tally.failed.min(1);
-            let changes = tally.changes;
-            Ok(Tally { failed, changes })
+            match batch.finish(alloc, db, disk) {
+                Ok(()) => Ok(Tally {
+                    failed: tally.failed.min(1),
+                    changes: tally.changes,
+                }),
+                Err(fault) => Err(halt_of(fault)),
+            }
         }
         Err(Absent) => put_failing(err, b"error: open of - failed\n"),
     }

@@ -6,6 +6,7 @@
 
 mod add;
 mod erase;
+mod halting;
 mod import;
 mod install;
 mod missing;
@@ -17,6 +18,7 @@ mod turn;
 
 pub use add::add_files;
 pub use erase::erase_numbers;
+pub use halting::halt_of;
 pub use import::{import_list, import_most};
 pub use rebuilding::rebuild;
 pub use replace::replace_package;

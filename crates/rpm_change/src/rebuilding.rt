@@ -4,6 +4,7 @@ ghost use Rattle.std.specs.Prelude.{◌≡◌, ◌+◌, ◌≤◌, true, IsTrue,
 ghost use Rattle.std.specs.FinMap as finite;
 ghost use Rattle.rpm_change.specs.Prelude.{Bad, DiskFault, dropped_course, dropped_line, EndedOnOut, limit_of_command, Hand, holds, is_indexed, IsCurrent, IsGathering, IsOfRebuilding, IsReady, next_stores, Package, ChangesReachAnew, rebuild, store_of, RoomBecomes, Runs, SameLog, state_in, MeetsLimit, ProgressInBoth, ProgressOwing};
 
+use crate::halting::halt_of;
 use crate::single::take_within;
 use itoa::Buffer;
 use rpm_db::{Batch, Db, GetFault};
@@ -125,8 +126,10 @@ fn drop_all<D: Disk, O: Sink + Drop>(
 {
     let mut batch = Batch::begin(alloc, db);
     let tally = drop_each(alloc, db, disk, &mut batch, out)?;
-    batch.finish(alloc, db, disk)?;
-    Ok(tally)
+    match batch.finish(alloc, db, disk) {
+        Ok(()) => Ok(tally),
+        Err(fault) => Err(halt_of(fault)),
+    }
 }
 
 /// Makes the index anew, whatever it was, and then erases each package that is Bad, by rising number: each has a line
@@ -174,6 +177,8 @@ pub fn rebuild<D: Disk, O: Sink + Drop>(
     ensures disk { DiskFault D.Disk (result ≡ Err Halt.DiskFault) disk.old disk.new }
     ensures out { Hand O.Sink (result ≡ Err Halt.OutFault) out.old out.new }
 {
-    db.rebuild(alloc, disk)?;
-    drop_all(alloc, db, disk, out)
+    match db.rebuild(alloc, disk) {
+        Ok(()) => drop_all(alloc, db, disk, out),
+        Err(fault) => Err(halt_of(fault)),
+    }
 }

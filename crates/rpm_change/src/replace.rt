@@ -4,6 +4,7 @@ ghost use Rattle.std.specs.Prelude.{◌≡◌, ◌+◌, Some, false, IsTrue, Err
 ghost use Rattle.rpm_change.specs.Prelude.{EndedOnErr, Hand, HasTarget, KeepsShelf, holds, IsOfPutting, IsReady, put_file, replace, state_in, ProgressInBoth};
 
 use crate::add::{Placing, put_file};
+use crate::halting::halt_of;
 use crate::missing::put_missing;
 use rpm_db::{Batch, Db};
 use rpm_effects::{Halt, Tally};
@@ -31,8 +32,10 @@ fn put_alone<D: Disk, S: Shelf, E: Sink + Drop>(
 {
     let mut batch = Batch::begin(alloc, db);
     let tally = put_file(alloc, db, disk, shelf, &mut batch, how, path, err)?;
-    batch.finish(alloc, db, disk)?;
-    Ok(tally)
+    match batch.finish(alloc, db, disk) {
+        Ok(()) => Ok(tally),
+        Err(fault) => Err(halt_of(fault)),
+    }
 }
 
 /// Puts the package file under a path in place of the package that a number has, Good or Bad, with the entries that

@@ -3,6 +3,7 @@
 ghost use Rattle.std.specs.Prelude.{◌≡◌, true, Ok};
 ghost use Rattle.rpm_change.specs.Prelude.{change_at, Erase, GathersOne, header, holds, IsGathering, HasTarget, read_again};
 
+use crate::halting::halt_of;
 use rpm_db::{Batch, Db};
 use rpm_effects::{CHANGED, Halt, Tally};
 use rpm_header::View;
@@ -31,14 +32,14 @@ pub fn put_within<D: Disk>(
 {
     let view = View::of_checked(blob);
     match number {
-        None => {
-            batch.add_view(alloc, db, disk, &view)?;
-            Ok(CHANGED)
-        }
-        Some(n) => {
-            batch.replace_view(alloc, db, disk, n, &view)?;
-            Ok(CHANGED)
-        }
+        None => match batch.add_view(alloc, db, disk, &view) {
+            Ok(_) => Ok(CHANGED),
+            Err(fault) => Err(halt_of(fault)),
+        },
+        Some(n) => match batch.replace_view(alloc, db, disk, n, &view) {
+            Ok(()) => Ok(CHANGED),
+            Err(fault) => Err(halt_of(fault)),
+        },
     }
 }
 
@@ -58,6 +59,8 @@ pub fn take_within<D: Disk>(
     requires held { holds number db.old ≡ true }
     ensures { GathersOne D.Disk (Erase number) disk.old disk.new db.old db.new batch.old batch.new result }
 {
-    batch.erase(alloc, db, disk, number)?;
-    Ok(CHANGED)
+    match batch.erase(alloc, db, disk, number) {
+        Ok(()) => Ok(CHANGED),
+        Err(fault) => Err(halt_of(fault)),
+    }
 }

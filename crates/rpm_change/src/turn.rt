@@ -3,6 +3,7 @@
 ghost use Rattle.std.specs.Prelude.{◌≡◌, ◌+◌, ◌<◌, ◌≤◌, true, IsTrue, Err, IfOk, IfErr};
 ghost use Rattle.rpm_change.specs.Prelude.{EndedOnErr, Hand, IsGathering, IsOfHeaders, IsOfImporting, KeepsShelf, ListEnd, bytes_left, list_head, HaltOfList, tally_of, turn, turn_found, ProgressOwing};
 
+use crate::halting::halt_of;
 use crate::places::{list_text, put_bad_header, put_place};
 use rpm_db::{Batch, ChangeFault, Db};
 use rpm_effects::{CHANGED, Halt, IDLE, Tally};
@@ -55,7 +56,7 @@ fn import_header<D: Disk, E: Sink + Drop>(
     match batch.add(alloc, db, disk, blob) {
         Ok(_) => Ok(CHANGED),
         Err(ChangeFault::BadHeader(fault)) => put_bad_header(alloc, err, place, fault),
-        Err(fault) => Err(Halt::from(fault)),
+        Err(fault) => Err(halt_of(fault)),
     }
 }
 

@@ -1,5 +1,5 @@
 -- A course that was gone through on a database that was opened to be changed, as a command says it.
-use Rattle.rpm_commit.proofs.Vocabulary.{BadBy, begun_store, Change, command_limit, Course, Damage, Database, DiskFault, Done, done_why, EmptyBy, CourseProgress}
+use Rattle.rpm_commit.proofs.Vocabulary.{at_index, BadBy, begun_store, by_index, Change, command_limit, Course, Damage, Database, DiskFault, Done, done_why, EmptyBy, CourseProgress}
 use Rattle.rpm_commit.proofs.Vocabulary.{ended_as}
 use Rattle.rpm_commit.proofs.Vocabulary.{exercise, exercise_ended, ExerciseFault, Files, limit_of_command, limit_of_changes, Halt, Halted, HasRows, HasStore, holds, idle}
 use Rattle.rpm_commit.proofs.Vocabulary.{in_file, is_halt, is_there, IsCurrent, IsIndexed, IsLawful, IsNext, IsOfOpening, IsPaged, IsRefused, Keeps, LimitsBy}
@@ -87,7 +87,7 @@ module _ {D : Type 0} (d : disk.Ghosts D) (reads : Bool) (Telling : Type 0) (old
       → WorksOn d anew changing none course (Told d reads Telling) x x old mid (Err w)
   unopened_works anew changing none course x w opens kind runs fault = record {
     worked = λ t. open_with anew changing course (d.files old) (d.files mid) w x x (opens t.0) (through_none x);
-    limits = λ t indexed may. limits_unopened indexed anew course (d.files old) (d.files mid) w (opens t.0);
+    limits = λ t. by_index (λ indexed may. limits_unopened indexed anew course (d.files old) (d.files mid) w (opens t.0));
     empty = λ t. empty none (opens t);
     halted = (opening_kinds w kind).0;
     runs = runs;
@@ -133,8 +133,8 @@ module _ {D : Type 0} (d : disk.Ghosts D) (trans : (a b c : D) → d.follows a b
     all_runs more = runs_then d trans SameLog SameLog SameLog old mid new (λ x y log. log) (λ x y z first second. second ∙ first) runs more
 
     limits_at : (w : Why) (t : T) → Meets t.0 (λ indexed first. MeetsFirst indexed first w) → LimitsBy anew Lawful course (d.files old) w
-    limits_at w t meets = λ indexed may. found_if t.0
-        (λ value s v. MeetsFirst indexed (command_limit indexed (is_rebuilt anew (d.files old).idx value) s v (course s).changes) w) (meets indexed may)
+    limits_at w t meets = by_index (λ indexed may. found_if t.0
+        (λ value s v. MeetsFirst indexed (command_limit indexed (is_rebuilt anew (d.files old).idx value) s v (course s).changes) w) (meets indexed may))
 
     -- it was stopped
     stopped_works : (w : Why) → is_halt w ≡ true → (T → UncommittedProgress (course found) w before behind)
@@ -189,9 +189,10 @@ module _ {D : Type 0} (d : disk.Ghosts D) (trans : (a b c : D) → d.follows a b
             index = λ may. record {
               value = in_file (store_of last);
               undamaged = it.keeps;
-              current = (it.index may).current;
-              rows_are = subst (λ (s : State). HasRows s.packages (d.files new).idx) (sym (state-in_file (d.files new).pkg (store_of last)))
-                  (it.index may).rows_are;
+              index = inr (
+                (it.index may).current,
+                subst (λ (s : State). HasRows s.packages (d.files new).idx) (sym (state-in_file (d.files new).pkg (store_of last))) (it.index may).rows_are,
+              );
             };
             reached = it.reached;
           };
@@ -221,8 +222,8 @@ module _ {D : Type 0} (d : disk.Ghosts D) (trans : (a b c : D) → d.follows a b
         index = opened.rows t.0;
         first = λ indexed may.
             plain_stops (d.files old) (d.files mid) db (opens t.0) (opened.found t.0) indexed (λ s. idle) (Ok none) refl;
-        reached = λ indexed may. reached_changed indexed (λ s. idle) (d.files old) (d.files mid) (d.files mid) db (opens t.0) (opened.found t.0)
-            (reached_none indexed found (store_of db) (d.files mid)) (inl (omega arith));
+        reached = by_index (λ indexed may. reached_changed indexed (λ s. idle) (d.files old) (d.files mid) (d.files mid) db (opens t.0) (opened.found t.0)
+            (reached_none indexed found (store_of db) (d.files mid)) (inl (omega arith)));
       }) (λ tells. refl) same (omega arith)
 
   module _ (course : State → Course) (new : D) (last : Database) (before behind : Outputs) where
@@ -234,17 +235,17 @@ module _ {D : Type 0} (d : disk.Ghosts D) (trans : (a b c : D) → d.follows a b
     went_works says (Ok tally) went ended = done_works false true false course new before behind last tally (λ t. record {
       done = ended t;
       keeps = (went.left.carried.serving t.0).keeps;
-      paged = stores_paged (course found).changes (store_of db) (store_of last) (went.limits (says t) false (λ asked. absurd cc)).stores
+      paged = stores_paged (course found).changes (store_of db) (store_of last) (went.limits (says t)).always.stores
           (made_paged db opened.not_blank);
-      stores = (went.limits (says t) false (λ asked. absurd cc)).stores;
+      stores = (went.limits (says t)).always.stores;
       index = λ lawful. went.left.carried.index t.0 (opened.rows t.0 lawful);
       first = λ indexed may. plain_stops (d.files old) (d.files mid) db (opens t.0) (opened.found t.0) indexed course (Ok tally)
-          (went.limits (says t) indexed (λ asked. opened.rows t.0 (may asked))).first;
-      reached = λ indexed may. reached_changed indexed course (d.files old) (d.files mid) (d.files new) db (opens t.0) (opened.found t.0)
-          (went.limits (says t) indexed (λ asked. opened.rows t.0 (may asked))).reached
-          (⊎_elim (λ rows. inl ((went.limits (says t) true (λ asked. rows)).reached.idx refl))
+          (at_index (went.limits (says t)) indexed (λ asked. opened.rows t.0 (may asked))).first;
+      reached = by_index (λ indexed may. reached_changed indexed course (d.files old) (d.files mid) (d.files new) db (opens t.0) (opened.found t.0)
+          (at_index (went.limits (says t)) indexed (λ asked. opened.rows t.0 (may asked))).reached
+          (⊎_elim (λ rows. inl (((went.limits (says t)).indexed rows).reached.idx refl))
           (λ same. inr (subst (λ (u : Units). Gains (all_added found (course found).changes) u (d.files new).idx) same (went.given (says t))))
-          (opened.finds t.0));
+          (opened.finds t.0)));
     }) (λ tells. done_unheld tally.failed) went.left.runs went.left.disk.later
     went_works says (Err h) went ended = stopped_works false true false course new before behind (why_of_halt h) (halts h).halted
         (λ t. halt_stopped (course found) found (state_in d new last) h before behind (ended t))
@@ -254,7 +255,7 @@ module _ {D : Type 0} (d : disk.Ghosts D) (trans : (a b c : D) → d.follows a b
         (refl, opened.broken t.0 broken, subst (λ (u : Units). IsBlamed u unit) same (halt_blames (d.files mid).idx h unit (went.bad t.0) is)))
         (λ t indexed may. limits_halt indexed (is_rebuilt false (d.files old).idx (opened.found t.0).value) found (store_of db) (course found).changes h
         (plain_stops (d.files old) (d.files mid) db (opens t.0) (opened.found t.0) indexed course (Err h)
-        (went.limits (says t) indexed (λ asked. opened.rows t.0 (may asked))).first))
+        (at_index (went.limits (says t)) indexed (λ asked. opened.rows t.0 (may asked))).first))
         (λ tells. (halts h).unheld) went.left.runs (halt_fault false true false course new before behind h went.left.disk refl)
 
     -- the index is made anew before them
@@ -271,7 +272,8 @@ module _ {D : Type 0} (d : disk.Ghosts D) (trans : (a b c : D) → d.follows a b
       stores = stores t.0;
       index = λ _. current.index t.0;
       first = λ indexed may. made_stops indexed true found (store_of db) (course found).changes (Ok tally) (stops t.0);
-      reached = λ indexed may. reached_renewed indexed course (d.files old) (d.files mid) (d.files new) db (opens t.0) (opened.found t.0) (reach t.0);
+      reached =
+          by_index (λ indexed may. reached_renewed indexed course (d.files old) (d.files mid) (d.files new) db (opens t.0) (opened.found t.0) (reach t.0));
     }) empty more fault.later
     anew_works none (Err h) empty ended stops current stores reach more fault = stopped_works true false none course new before behind
         (why_of_halt h) (halts h).halted

@@ -2,7 +2,7 @@
 use Rattle.std.proofs.Common.{◌≡◌, ◌^◌, ◌≤◌, Bool, true, false, None, refl, List, [], ◌∷◌, Option, Some, arith}
 use Rattle.std.specs.Prelude.{◌==◌, ◌&&◌, if◌then◌else◌, is_none, unwrap_or, nat_lt}
 use Rattle.std.proofs.lemmas.Bool.Decides.{nat_tests}
-use Rattle.rpm_commit.proofs.Vocabulary.{apply, apply_all, Change, limit_of_command, limit_of_changes, Halt, is_large, is_spent, needed_index, next_store, option_or}
+use Rattle.rpm_commit.proofs.Vocabulary.{apply, apply_all, Change, limit_of_command, limit_of_changes, Halt, is_large, is_spent, units_needed_after, next_store, option_or}
 use Rattle.rpm_commit.proofs.Vocabulary.{limit_of_change, rows, State, Store, units_for}
 use Rattle.rpm_effects.specs.declared.tally.Halt.TheVariants as halt
 
@@ -23,7 +23,7 @@ one_fits s v c none =
     let first = behind (is_spent s c) halt.NumbersSpent _ none in
     let second = behind (v.generation == 4294967295) halt.GenerationSpent _ first.1 in
     let third = behind (is_none (next_store c v)) halt.StoreFull _ second.1 in
-    let small : nat_lt (2 ^ 28) (needed_index s c) ≡ false = (behind (true && is_large s c) (halt.IndexFull (needed_index s c)) None third.1).0 in
+    let small : nat_lt (2 ^ 28) (units_needed_after s c) ≡ false = (behind (true && is_large s c) (halt.IndexFull (units_needed_after s c)) None third.1).0 in
     grind (arith, nat_tests, small)
 
 all_fit : (cs : List Change) (s : State) (v : Store) → limit_of_changes true s v cs ≡ None → Fits s → Fits (apply_all cs s)

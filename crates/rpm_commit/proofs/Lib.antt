@@ -2,6 +2,6 @@ mod Coursed
 mod Ends
 mod FileReach
 mod Fitting
-mod Grouped
 mod Halting
+mod Transactions
 pub mod Vocabulary

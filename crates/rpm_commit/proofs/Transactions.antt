@@ -1,12 +1,12 @@
 -- The changes of a command as one transaction: what they leave of a disk that was recovered.
-use Rattle.std.proofs.Common.{◌≡◌, ℕ, ◌^◌, ◌≤◌, Bool, true, false, None, Result, Ok, Err, refl, sym, ◌∙◌, subst, inl, inr, ⊎_elim}
+use Rattle.std.proofs.Common.{◌≡◌, ℕ, List, ◌^◌, ◌≤◌, Bool, true, false, None, Result, Ok, Err, refl, sym, ◌∙◌, subst, inl, inr, ⊎_elim}
 use Rattle.std.specs.Prelude.{IfOk, IfErr}
 use Rattle.rpm_commit.proofs.Vocabulary.{after, AllRowsFit, AreLawfulDatabases, BeforeOrAfter, begun_store, changes_index, command_limit, Course}
-use Rattle.rpm_commit.proofs.Vocabulary.{Damage, ChangeProgress, ChangeProgressOnLog, ChangeProgressOn, ChangeProgressOnStore, done_why, TransactionEnding, Files, HasCurrent}
+use Rattle.rpm_commit.proofs.Vocabulary.{Damage, ChangeProgress, ChangeProgressOnLog, ChangeProgressOn, ChangeProgressOnStore, done_why, TransactionEnding, Files, HasUsableIndex}
 use Rattle.rpm_commit.proofs.Vocabulary.{HasChanges, HasState, HasStore, images, is_anew, is_done_or_fault, is_halt, is_of_lawful, IsAllOrNone}
 use Rattle.rpm_commit.proofs.Vocabulary.{IsLawful, IsLawfulDatabase, IsSound, KeepsLog, LengthsOn, ReachesBy}
 use Rattle.rpm_commit.proofs.Vocabulary.{IsDatabaseMade, IsShut, IsUncommitted, leaves_then, leaves_weaker, CrashLeaves, LimitsBy, Log, log_state, LogIs, LogOn, LogState}
-use Rattle.rpm_commit.proofs.Vocabulary.{is_rebuilt, MayBegin, OneChange, Outputs, RecoverSays, reopened, ReopensAs}
+use Rattle.rpm_commit.proofs.Vocabulary.{is_rebuilt, MayBegin, AnswersChange, at_index, by_index, Outputs, ran, RecoverSays, reopened, ReopensAs}
 use Rattle.rpm_commit.proofs.Vocabulary.{ReopensAsOneOf, rows, RowsFit, Says, IsLawfulAndSameOr, State, state, Store, store, Tally, TaskParts, Through, Units}
 use Rattle.rpm_commit.proofs.Vocabulary.{units_for, units_needed, without_log, Why, why_of, with_file, WorkBy, WorkOnStore, Work}
 use Rattle.rpm_commit.specs.laws.Brokens.{done_unbroken}
@@ -17,7 +17,7 @@ use Rattle.rpm_commit.proofs.Ends.{halt_undone}
 use Rattle.rpm_commit.proofs.Fitting.{limit_fits}
 use Rattle.rpm_commit.specs.laws.Limited.{none_done}
 use Rattle.rpm_commit.specs.laws.Recovered.{recovered_fits, recovered_sound, recovered_still}
-use Rattle.rpm_commit.specs.laws.Standing.{begins, current_lawful, if_ok, if_ok_at, lawful_store, may_begin, ok_is, shut_lawful, shut_stands, stands_lawful}
+use Rattle.rpm_commit.specs.laws.Standing.{begins, if_ok, if_ok_at, lawful_store, may_begin, ok_is, shut_lawful, shut_stands, stands_lawful, usable_lawful}
 use Rattle.rpm_commit.specs.laws.Unmade.{still_one}
 use Rattle.rpm_group.specs.laws.KeptLogs.{sound_kept}
 use Rattle.rpm_outside.specs.declared.disk.Disk as disk
@@ -51,7 +51,7 @@ halt_unlogged : (indexed : Bool) (course : State → Course) (files : Files) (w 
 halt_unlogged indexed course files (why.LogFull u) halts = absurd cc
 halt_unlogged indexed course files others halts = tt
 
-module _ {D : Type 0} (d : disk.Ghosts D) (task : TaskParts) (course : State → Course) (old last final : D) (log : Units) (new : Files)
+module _ {D : Type 0} (d : disk.Ghosts D) (words : List (List ℕ)) (task : TaskParts) (course : State → Course) (old last final : D) (log : Units) (new : Files)
     (before now : Outputs) (here : images d old (d.files old)) (finished : Bool) (says : RecoverSays (log_state (d.files old).log) (Ok finished))
     (run : CrashLeaves d old last (ReopensAsOneOf (images d old))) (same : without_log (d.files last) ≡ reopened (d.files old))
     (as_read : d.left_since final (d.moment last) (d.files final)) where
@@ -71,7 +71,7 @@ module _ {D : Type 0} (d : disk.Ghosts D) (task : TaskParts) (course : State →
   s0 s = state r.pkg s
 
   abbrev One : Why → ℕ → Type 0
-  One w n = OneChange d task course w n old final before now
+  One w n = AnswersChange (ran d words w n (old, final) (before, now)) task course
 
   abbrev Worked : Result Tally Why → Type 0
   Worked ended = Work anew (changes_index task) course (with_file Log log r) new ended before now
@@ -106,17 +106,17 @@ module _ {D : Type 0} (d : disk.Ghosts D) (task : TaskParts) (course : State →
     halted_one : (was : Why) → is_halt was ≡ true → Worked (Err was) → Meets was → One was 0
     halted_one was halts worked met =
         let told = stopped_opened course r.pkg new was before now (store r.pkg) worked.went in
-        still_one d task course old final still_final still_log still_run was before now (halt_undone was halts) (did_by was told) worked.bad
+        still_one d words task course old final still_final still_log still_run was before now (halt_undone was halts) (did_by was told) worked.bad
         (λ lawful. (let is = lawful_store r.pkg r.idx lawful.lawful in
         lawful_ending (course (s0 is.0)) _ was before now
         (subst (λ (sr : Result Store Damage). ChangeProgressOnStore (λ s. course (s0 s)) sr was before now) is.1 told)
-        (if_ok_at _ (store r.pkg) is.0 is.1 (met true (λ asked. begins anew lawful)))))
-        met (λ indexed may. halt_unlogged indexed course r was halts)
+        (if_ok_at _ (store r.pkg) is.0 is.1 (met.indexed (begins anew lawful)))))
+        met (by_index (λ indexed may. halt_unlogged indexed course r was halts))
 
     starved_one : Worked (Err why.DiskFault) → One why.NoMemory 0
-    starved_one worked = still_one d task course old final still_final still_log still_run why.NoMemory before now (λ is. cc)
+    starved_one worked = still_one d words task course old final still_final still_log still_run why.NoMemory before now (λ is. cc)
         (did_by why.NoMemory (starved_opened course r.pkg new before now (store r.pkg) worked.went)) (λ unit is. absurd cc) (λ lawful. refl)
-        (λ indexed may. if_ok (store r.pkg) (λ s is. tt)) (λ indexed may. tt)
+        (by_index (λ indexed may. if_ok (store r.pkg) (λ s is. tt))) (by_index (λ indexed may. tt))
 
   -- ---- gone through to its end
 
@@ -135,12 +135,12 @@ module _ {D : Type 0} (d : disk.Ghosts D) (task : TaskParts) (course : State →
     has_made : (image : Files) → reopened image ≡ without_log new → HasState made image
     has_made image stands = subst (λ (f : Files). Says (λ t. t ≡ made) f.pkg) (sym stands) has
 
-    current : MayBegin anew Lawful → HasCurrent new.pkg new.idx
+    current : MayBegin anew Lawful → HasUsableIndex new.pkg new.idx
     current may = worked.index (may_begin anew (λ group. group.lawful) may)
 
     none : (indexed : Bool) → (indexed ≡ true → MayBegin anew Lawful)
         → command_limit indexed (is_rebuilt anew r.idx s) (s0 s) (begun_store s) (course (s0 s)).changes ≡ None
-    none indexed may = none_done indexed _ tally.failed (if_ok_at _ (store r.pkg) s is (met indexed may))
+    none indexed may = none_done indexed _ tally.failed (if_ok_at _ (store r.pkg) s is (at_index met indexed may))
 
     did_all : (w : Why) → ((c : Course) → Through c.steps before now → c.failed ≡ tally.failed → ChangeProgress c w before now)
         → ChangeProgressOn course (d.files old) w before now
@@ -155,11 +155,11 @@ module _ {D : Type 0} (d : disk.Ghosts D) (task : TaskParts) (course : State →
         (λ image. ⊎_elim (λ was. still image (still_before image was)) (after_it image)) left)
 
     reached : (indexed : Bool) → (indexed ≡ true → MayBegin anew Lawful) → LengthsOn indexed r.pkg r.idx s (s0 s) (course (s0 s)).changes new
-    reached indexed may = if_ok_at _ (store r.pkg) s is (worked.reached indexed (λ asked. may_begin anew (λ group. group.lawful) (may asked)))
+    reached indexed may = if_ok_at _ (store r.pkg) s is (at_index worked.reached indexed (λ asked. may_begin anew (λ group. group.lawful) (may asked)))
 
     reaches_made : ReachesBy anew Lawful course r (without_log new)
-    reaches_made indexed may =
-        let it = reached indexed may in ok_is _ (store r.pkg) s is (record { pkg_is = it.pkg_is; idx_is = it.idx_is; idx_most = it.idx_most })
+    reaches_made = by_index (λ indexed may.
+        let it = reached indexed may in ok_is _ (store r.pkg) s is (record { pkg_is = it.pkg_is; idx_is = it.idx_is; idx_most = it.idx_most }))
 
     -- an image that represents what was made has all changes
     changes_in : (image : Files) → ReopensAs (without_log new) image → HasChanges anew Lawful course r image
@@ -170,7 +170,7 @@ module _ {D : Type 0} (d : disk.Ghosts D) (task : TaskParts) (course : State →
       has = has_made image stands.same;
       stored = subst (λ (f : Files). HasStore (begun_store s) (course (s0 s)).changes f.pkg) (sym stands.same) (if_ok_at _ (store r.pkg) s is worked.stored);
       reaches = subst (λ (f : Files). ReachesBy anew Lawful course r f) (sym stands.same) reaches_made;
-      lawful = λ may. stands_lawful (without_log new) image stands (current_lawful new.pkg new.idx (current may));
+      lawful = λ may. stands_lawful (without_log new) image stands (usable_lawful new.pkg new.idx worked.made (current may));
     }
 
     transaction_images : (w : Why) → is_done_or_fault w ≡ true → CrashLeaves d old final (IsAllOrNone past w (HasChanges anew Lawful course r))
@@ -188,7 +188,7 @@ module _ {D : Type 0} (d : disk.Ghosts D) (task : TaskParts) (course : State →
     transaction_crashes lawful =
         ok_is _ (store r.pkg) s is (transaction_run (IsLawfulAndSameOr past made) (λ image was. inl (recovered_still past lawful image was))
         (λ image stands. inr (
-          stands_lawful (without_log new) image stands (current_lawful new.pkg new.idx (current (begins anew (lawful (d.files old) here)))),
+          stands_lawful (without_log new) image stands (usable_lawful new.pkg new.idx worked.made (current (begins anew (lawful (d.files old) here)))),
           has_made image stands.same,
         )))
 
@@ -210,7 +210,7 @@ module _ {D : Type 0} (d : disk.Ghosts D) (task : TaskParts) (course : State →
       did = did_all why.DiskFault (λ c through failed. some_all through);
       changed = record {
         counted = λ not. refl;
-        leaves = ok_is _ (store r.pkg) s is (
+        state_is = ok_is _ (store r.pkg) s is (
           refl,
           ⊎_elim (λ was. inl (subst (λ (f : Files). Says (λ t. t ≡ s0 s) f.pkg) (sym (was.same ∙ same)) (record { value = s; undamaged = is; is = refl })))
               (λ stands. inr (has_made (d.files final) stands.same)) (left.each (d.files final) as_read),
@@ -230,12 +230,12 @@ module _ {D : Type 0} (d : disk.Ghosts D) (task : TaskParts) (course : State →
         next = λ done. absurd cc;
         images = transaction_images why.DiskFault refl;
       };
-      limits = λ indexed may. if_ok (store r.pkg) (λ t stored. tt);
+      limits = by_index (λ indexed may. if_ok (store r.pkg) (λ t stored. tt));
       fault = λ faulted. inr (record {
         told = record { value = s; undamaged = is; is = on.2.steps };
-        limits = λ indexed may. ok_is _ (store r.pkg) s is (none indexed may);
+        limits = by_index (λ indexed may. ok_is _ (store r.pkg) s is (none indexed may));
       });
-      log = λ indexed may. tt;
+      log = by_index (λ indexed may. tt);
     }
 
     -- it wasn't committed
@@ -243,20 +243,21 @@ module _ {D : Type 0} (d : disk.Ghosts D) (task : TaskParts) (course : State →
         → One w 0
     uncommitted = by_uncommitted
         (λ (w : Why). (is_done_or_fault w ≡ false → CrashLeaves d last final (ReopensAs (without_log (d.files last)))) → LogIs new w → One w 0)
-        (λ u unmade long. still_one d task course old final (still_final (unmade refl)) (still_log (unmade refl)) (still_run (unmade refl)) (why.LogFull u)
+        (λ u unmade long. still_one d words task course old final (still_final (unmade refl)) (still_log (unmade refl)) (still_run (unmade refl))
+        (why.LogFull u)
         before now (λ done. cc) (did_all (why.LogFull u) (λ c through failed. some_all through)) (λ unit bad. absurd cc) (λ lawful. refl)
-        (λ indexed may. ok_is _ (store r.pkg) s is (none indexed may))
-        (λ indexed may. ok_is _ (store r.pkg) s is (
+        (by_index (λ indexed may. ok_is _ (store r.pkg) s is (none indexed may)))
+        (by_index (λ indexed may. ok_is _ (store r.pkg) s is (
           new,
           has,
           reached indexed may,
           long.0,
           long.1,
-        )))
+        ))))
         (λ unmade long. faulted)
-        (λ unmade long. still_one d task course old final (still_final (unmade refl)) (still_log (unmade refl)) (still_run (unmade refl)) why.NoMemory
+        (λ unmade long. still_one d words task course old final (still_final (unmade refl)) (still_log (unmade refl)) (still_run (unmade refl)) why.NoMemory
         before now (λ done. cc) (did_all why.NoMemory (λ c through failed. some_all through)) (λ unit bad. absurd cc) (λ lawful. refl)
-        (λ indexed may. if_ok (store r.pkg) (λ t stored. tt)) (λ indexed may. tt))
+        (by_index (λ indexed may. if_ok (store r.pkg) (λ t stored. tt))) (by_index (λ indexed may. tt)))
 
     -- it was
     module _ (done : without_log (d.files final) ≡ without_log new) (shut : IsShut d final) where
@@ -268,14 +269,14 @@ module _ {D : Type 0} (d : disk.Ghosts D) (task : TaskParts) (course : State →
         did = did_all (done_why tally.failed) (λ c through failed. done_did c tally.failed before now through failed);
         changed = record {
           counted = λ not. absurd (let wrong : true ≡ false = sym (is_done_why tally.failed) ∙ not in cc);
-          leaves = ok_is _ (store r.pkg) s is (leaves_done course (s0 s) tally.failed tally.changes (d.files final) (sym on.2.changes)
+          state_is = ok_is _ (store r.pkg) s is (leaves_done course (s0 s) tally.failed tally.changes (d.files final) (sym on.2.changes)
               (has_made (d.files final) final_is));
           refused = λ not. absurd (let wrong : true ≡ false = sym (fault_done_why tally.failed) ∙ not in cc);
           made = λ _. subst (λ (f : Files). IsDatabaseMade f.pkg) (sym final_is) worked.made;
-          index = λ may _. record { closed = shut.closed; indexed = subst (λ (f : Files). HasCurrent f.pkg f.idx) (sym done) (current may) };
+          index = λ may _. record { closed = shut.closed; indexed = subst (λ (f : Files). HasUsableIndex f.pkg f.idx) (sym done) (current may) };
           durable = λ _. shut.durable;
           lawful = λ may _ image left. subst IsLawfulDatabase (sym (shut.durable image left)) (shut_lawful (d.files final) shut.closed
-              (subst (λ (f : Files). IsLawful f.pkg f.idx) (sym done) (current_lawful new.pkg new.idx (current may))));
+              (subst (λ (f : Files). IsLawful f.pkg f.idx) (sym done) (usable_lawful new.pkg new.idx worked.made (current may))));
           bad = λ unit bad. absurd (done_unbroken tally.failed unit bad);
           complete = λ _. by_done_why (λ (w : Why). is_of_lawful w ≡ true) tally.failed (λ _. refl) (λ _. refl);
           crashes = transaction_crashes;
@@ -289,7 +290,7 @@ module _ {D : Type 0} (d : disk.Ghosts D) (task : TaskParts) (course : State →
         };
         limits = met;
         fault = λ faulted. absurd (by_done_why (λ (w : Why). w ≡ why.DiskFault → ⊥) tally.failed (λ _ is. cc) (λ _ is. cc) faulted);
-        log = λ indexed may. by_done_why (LogOn indexed course r) tally.failed (λ _. tt) (λ _. tt);
+        log = by_index (λ indexed may. by_done_why (LogOn indexed course r) tally.failed (λ _. tt) (λ _. tt));
       }
 
   -- ---- however it went
@@ -308,4 +309,4 @@ module _ {D : Type 0} (d : disk.Ghosts D) (task : TaskParts) (course : State →
       uncommitted tally worked met at.0 at.1 ends.leaves w un ends.unmade long))
       (λ was worked met halted ends long. halted_one ends.leaves was halted worked met)
       (λ worked met halted ends long. starved_one ends.leaves worked)
-      ended given n ends.says worked (λ indexed may. met indexed (λ asked. may_begin anew (λ group. group.lawful) (may asked))) halted ends
+      ended given n ends.says worked (by_index (λ indexed may. at_index met indexed (λ asked. may_begin anew (λ group. group.lawful) (may asked)))) halted ends

@@ -4,7 +4,9 @@ pub use Rattle.rpm_effects.specs.Progress.{Done, CourseProgress, Outputs, Throug
 pub use Rattle.rpm_change.specs.Erasing.{IsOfErasing, erase}
 pub use Rattle.rpm_effects.specs.Hands.{Hand}
 pub use Rattle.rpm_change.specs.Importing.{import_list, max_headers}
-pub use Rattle.rpm_change.specs.Limits.{limit_of_command, limit_of_changes, is_large, is_spent, LimitsTurn, needed_index, next_stores, limit_of_change, MeetsLimit}
+pub use Rattle.rpm_change.specs.Limits.{limit_of_command, limit_of_changes, is_large, is_spent, LimitsTurn}
+pub use Rattle.rpm_change.specs.Limits.{next_stores, limit_of_change, MeetsLimit}
+pub use Rattle.rpm_db.specs.Reaches.{units_needed_after}
 pub use Rattle.rpm_change.specs.Reaches.{idx_reach, pkg_reach, ChangesReachAnew}
 pub use Rattle.rpm_change.specs.Rebuilding.{IsOfRebuilding, rebuild}
 pub use Rattle.rpm_effects.specs.Steps.{apply_all, Course, idle}
@@ -13,19 +15,22 @@ pub use Rattle.rpm_change.specs.Progress.{IsCurrent}
 pub use Rattle.rpm_effects.specs.declared.tally.Halt.{Halt}
 pub use Rattle.rpm_effects.specs.declared.tally.Tally.{Tally}
 pub use Rattle.rpm_effects.specs.laws.Courses.{none_gone}
+pub use Rattle.rpm_change.specs.inner.IndexLaws.{at_index, by_index}
 pub use Rattle.rpm_change.specs.laws.LimitLaws.{makes_small, never_bad_made}
 pub use Rattle.rpm_change.specs.laws.ReachLaws.{idx_more, pkg_more, reached_anew, reached_none}
 pub use Rattle.rpm_change.specs.laws.Stores.{stores_paged}
-pub use Rattle.rpm_commit.specs.Changing.{after, AllRowsFit, BadBy, ChangeProgress, ChangeProgressOnLog, ChangeProgressOn, ChangeProgressOnStore, EmptyBy, HasCurrent, HasState, IsDatabaseMade, is_rebuilt}
+pub use Rattle.rpm_commit.specs.Changing.{after, AllRowsFit, BadBy, ChangeProgress, ChangeProgressOnLog, ChangeProgressOn, ChangeProgressOnStore, EmptyBy, HasState, IsDatabaseMade, is_rebuilt}
 pub use Rattle.rpm_commit.specs.Changing.{HasChanges, IsAllOrNone, RowsFit, IsLawfulAndSameOr}
 pub use Rattle.rpm_effects.specs.Endings.{unless_starved, why_of_load, why_of_recover, why_of_halt}
-pub use Rattle.rpm_commit.specs.Lawful.{AreLawfulDatabases, IsLawfulDatabase, MayBegin}
-pub use Rattle.rpm_commit.specs.Limits.{command_limit, LimitsBy, LogIs, LogOn, MeetsFirst, OneChange}
+pub use Rattle.rpm_commit.specs.Answers.{AnswersChange}
+pub use Rattle.rpm_commit.specs.Lawful.{AreLawfulDatabases, HasUsableIndex, IsLawfulDatabase, MayBegin}
+pub use Rattle.rpm_commit.specs.Limits.{command_limit, LimitsBy, LogIs, LogOn, MeetsFirst}
 pub use Rattle.rpm_commit.specs.Reaches.{begun_store, HasStore, LengthsOn, ReachesBy, ReachesOn, StoresOn}
-pub use Rattle.rpm_commit.specs.Tasks.{asked_task, changes_index, is_anew, needs_none, reads_shelf, task_course, task_parts, TaskParts}
+pub use Rattle.rpm_commit.specs.Run.{ran}
+pub use Rattle.rpm_commit.specs.Tasks.{asked_course, asked_task, changes_index, is_anew, needs_none, reads_shelf, task_course, task_parts, TaskParts}
 pub use Rattle.rpm_commit.specs.Working.{done_why, ended_as, TransactionEnding, exercise_ended, IsShut, OpensBy, OpensIn, UncommittedProgress, why_of, WorkBy, WorkOnStore}
 pub use Rattle.rpm_commit.specs.Working.{Work}
-pub use Rattle.rpm_commit.specs.OneChange.{FoundStore, OpensOn, Streams, WorksOn}
+pub use Rattle.rpm_commit.specs.Stages.{FoundStore, OpensOn, Streams, WorksOn}
 pub use Rattle.rpm_db.specs.Changes.{apply, Change, Says}
 pub use Rattle.rpm_db.specs.Database.{Database, holds, IsIndexed, IsNext, IsPaged, Keeps}
 pub use Rattle.rpm_db.specs.Database.{store_of}

@@ -13,7 +13,7 @@ use Rattle.rpm_outside.specs.Logs.{LogState, Closed, Malformed, Open, log_state,
 use Rattle.rpm_pkgdb.specs.declared.slot.Damage.{Damage}
 use Rattle.rpm_pkgdb.specs.Store.{Store, store}
 use Rattle.rpm_db.specs.Changes.{Says}
-use Rattle.rpm_db.specs.Lawful.{HasRows, IsWholeIndex, is_current_at}
+use Rattle.rpm_db.specs.Lawful.{IsWholeIndex, is_current_at}
 use Rattle.rpm_db.specs.Openings.{must_rebuild, units_needed}
 use Rattle.rpm_db.specs.Database.{IsNext}
 use Rattle.rpm_db.specs.State.{State, Package, state, packages}
@@ -26,7 +26,8 @@ use Rattle.rpm_effects.specs.Answers.{Misread, RefusalIs}
 use Rattle.rpm_effects.specs.Classes.{is_of_changing, is_done, is_done_or_fault, is_not_empty, is_of_lawful}
 use Rattle.rpm_group.specs.Loads.{IsSound}
 use Rattle.rpm_group.specs.Crashes.{KeepsLog, ReopensAsOneOf}
-use Rattle.rpm_commit.specs.Lawful.{IsLawfulDatabase, AreLawfulDatabases, MayBegin, IsLawfulAndSame}
+use Rattle.rpm_commit.specs.Lawful.{IsLawfulDatabase, AreLawfulDatabases, HasClosedIndex, MayBegin, IsLawfulAndSame}
+use Rattle.rpm_commit.specs.Run.{Run}
 use Rattle.rpm_commit.specs.Reaches.{HasStore, ReachesBy, begun_store}
 
 -- ---- what a command answers
@@ -73,23 +74,11 @@ LeavesState course s (why.Failed n) changes files = (changes ≡ length (course 
 LeavesState course s why.DiskFault changes files = (changes ≡ 0) × (HasState s files ⊎ HasState (after course s) files)
 LeavesState course s others changes files = (changes ≡ 0) × HasState s files
 
--- the index is current, and holds the rows of the packages, each as often
-pub record HasCurrent (pkg idx : Units) : Type 0 where
-  pub value : Store
-  pub undamaged : store pkg ≡ Ok value
-  pub current : is_current_at value.generation idx ≡ true
-  pub rows_are : HasRows (packages pkg value) idx
-
 -- a database was made: its Packages.db isn't damaged, and has a slot page, which a blank one hasn't
 pub record IsDatabaseMade (pkg : Units) : Type 0 where
   pub value : Store
   pub undamaged : store pkg ≡ Ok value
   pub paged : 1 ≤ value.pages
-
--- a database has its index current and durable, and nothing is left of a change
-pub record HasDurableIndex (files : Files) : Type 0 where
-  pub closed : log_state files.log ≡ Closed
-  pub indexed : HasCurrent files.pkg files.idx
 
 -- all changes of a course were made of what was found: the files have the state and the store after them, are no longer
 -- than the changes make them, and are lawful where the command may begin
@@ -162,33 +151,33 @@ BadBy changing pkg idx given = (unit : ℕ) → given ≡ why.BadIndex unit → 
 
 -- ---- a command that changes packages
 
-module _ {D : Type 0} (d : disk.Ghosts D) where
-  -- all that is said, beside what it answers, on a disk that tells its contents
-  pub record ChangesWith (anew changing : Bool) (course : State → Course) (given : Why) (changes : ℕ)
-      (old new : D) : Type 0 where
-    pub counted : is_done given ≡ false → changes ≡ 0
-    pub leaves : IfOk (store (reopened (d.files old)).pkg)
-        (λ s. LeavesState course (state (reopened (d.files old)).pkg s) given changes (d.files new))
-    pub refused : is_done_or_fault given ≡ false → reopened (d.files new) ≡ reopened (d.files old)
-    pub made : is_done given ≡ true → IsDatabaseMade (reopened (d.files new)).pkg
-    pub index : MayBegin anew (IsLawfulDatabase (d.files old)) → is_done given ≡ true → HasDurableIndex (d.files new)
-    pub durable : is_done given ≡ true → AreDurable (d.files new) (images d new)
-    pub lawful : MayBegin anew (IsLawfulDatabase (d.files old)) → is_done given ≡ true
-        → AreLawfulDatabases (images d new)
-    pub bad : BadBy changing (reopened (d.files old)).pkg (reopened (d.files old)).idx given
-    pub complete : IsLawfulDatabase (d.files old) → is_of_lawful given ≡ true
-    pub crashes : AreLawfulDatabases (images d old) → IfOk (store (reopened (d.files old)).pkg)
-        (λ s. CrashLeaves d old new (IsLawfulAndSameOr (images d old)
-        (after course (state (reopened (d.files old)).pkg s))))
-    pub unmade : is_done_or_fault given ≡ false → AreLawfulDatabases (images d old)
-        → CrashLeaves d old new (IsLawfulAndSame (images d old))
-    pub fits : AreLawfulDatabases (images d old) → AllRowsFit (images d old) → CrashLeaves d old new RowsFit
-    pub held : is_done given ≡ true → IfOk (store (reopened (d.files old)).pkg)
-        (λ s. (image : Files) → images d new image → HasState
-        (after course (state (reopened (d.files old)).pkg s)) image)
-    pub kept : KeepsLog (d.files old) (d.files new)
-    pub next : is_done given ≡ true → HasChanges anew (IsLawfulDatabase (d.files old)) course (reopened (d.files old))
-        (d.files new)
-    pub images : CrashLeaves d old new
-        (IsAllOrNone (images d old) given (HasChanges anew (IsLawfulDatabase (d.files old)) course
-        (reopened (d.files old))))
+-- what a run leaves of a disk that tells its contents
+pub record ChangesWith {D : Type 0} {d : disk.Ghosts D} (r : Run d) (anew changing : Bool)
+    (course : State → Course) : Type 0 where
+  pub counted : is_done r.why ≡ false → r.changes ≡ 0
+  pub state_is : IfOk (store (reopened (d.files r.found)).pkg)
+      (λ s. LeavesState course (state (reopened (d.files r.found)).pkg s) r.why r.changes (d.files r.left))
+  pub refused : is_done_or_fault r.why ≡ false → reopened (d.files r.left) ≡ reopened (d.files r.found)
+  pub made : is_done r.why ≡ true → IsDatabaseMade (reopened (d.files r.left)).pkg
+  pub index : MayBegin anew (IsLawfulDatabase (d.files r.found)) → is_done r.why ≡ true
+      → HasClosedIndex (d.files r.left)
+  pub durable : is_done r.why ≡ true → AreDurable (d.files r.left) (images d r.left)
+  pub lawful : MayBegin anew (IsLawfulDatabase (d.files r.found)) → is_done r.why ≡ true
+      → AreLawfulDatabases (images d r.left)
+  pub bad : BadBy changing (reopened (d.files r.found)).pkg (reopened (d.files r.found)).idx r.why
+  pub complete : IsLawfulDatabase (d.files r.found) → is_of_lawful r.why ≡ true
+  pub crashes : AreLawfulDatabases (images d r.found) → IfOk (store (reopened (d.files r.found)).pkg)
+      (λ s. CrashLeaves d r.found r.left (IsLawfulAndSameOr (images d r.found)
+      (after course (state (reopened (d.files r.found)).pkg s))))
+  pub unmade : is_done_or_fault r.why ≡ false → AreLawfulDatabases (images d r.found)
+      → CrashLeaves d r.found r.left (IsLawfulAndSame (images d r.found))
+  pub fits : AreLawfulDatabases (images d r.found) → AllRowsFit (images d r.found)
+      → CrashLeaves d r.found r.left RowsFit
+  pub held : is_done r.why ≡ true → IfOk (store (reopened (d.files r.found)).pkg)
+      (λ s. (image : Files) → images d r.left image → HasState
+      (after course (state (reopened (d.files r.found)).pkg s)) image)
+  pub kept : KeepsLog (d.files r.found) (d.files r.left)
+  pub next : is_done r.why ≡ true → HasChanges anew (IsLawfulDatabase (d.files r.found)) course
+      (reopened (d.files r.found)) (d.files r.left)
+  pub images : CrashLeaves d r.found r.left (IsAllOrNone (images d r.found) r.why
+      (HasChanges anew (IsLawfulDatabase (d.files r.found)) course (reopened (d.files r.found))))

@@ -1,11 +1,14 @@
--- Files and images that represent a lawful database: what the page (`rpm_tool`, Theorem.antt) calls lawful.
-use Rattle.std.specs.Prelude.{◌≡◌, Bool, true, false}
+-- Files and images that represent a lawful database, and a database that is ready to be asked by its index: what the
+-- page (`rpm_tool`, Theorem.antt) calls so.
+use Rattle.std.specs.Prelude.{◌≡◌, ◌⊎◌, Bool, true, false, Ok}
 use Rattle.rpm_outside.specs.Frame.{images}
-use Rattle.rpm_outside.specs.Files.{Files}
-use Rattle.rpm_outside.specs.Logs.{log_state, reopened}
+use Rattle.rpm_outside.specs.Files.{Files, Units}
+use Rattle.rpm_outside.specs.Logs.{Closed, log_state, reopened}
+use Rattle.rpm_pkgdb.specs.Store.{Store, store}
 use Rattle.rpm_group.specs.Loads.{IsSound}
 use Rattle.rpm_group.specs.Crashes.{KeepsLog}
-use Rattle.rpm_db.specs.Lawful.{IsLawful}
+use Rattle.rpm_db.specs.Lawful.{HasRows, IsLawful, is_current_at}
+use Rattle.rpm_db.specs.State.{packages}
 
 -- files that represent a lawful database: their log is closed, or has a transaction that makes it of them
 pub record IsLawfulDatabase (files : Files) : Type 0 where
@@ -34,3 +37,14 @@ pub record IsLawfulAndSame (images : Files → Type 0) (image : Files) : Type 0 
   pub was : images from
   pub pkg : (reopened image).pkg ≡ (reopened from).pkg
   pub lawful : IsLawfulDatabase image
+
+-- the index is current, and holds the rows of the packages, each as often; a database that is blank needs none
+pub record HasUsableIndex (pkg idx : Units) : Type 0 where
+  pub value : Store
+  pub undamaged : store pkg ≡ Ok value
+  pub index : (value.pages ≡ 0) ⊎ ((is_current_at value.generation idx ≡ true) × HasRows (packages pkg value) idx)
+
+-- a database has its index, and nothing is left of a change
+pub record HasClosedIndex (files : Files) : Type 0 where
+  pub closed : log_state files.log ≡ Closed
+  pub indexed : HasUsableIndex files.pkg files.idx

@@ -1,9 +1,11 @@
+pub mod Answers
 pub mod Changing
 pub mod Lawful
 pub mod Limits
-pub mod OneChange
 pub mod Prelude
 pub mod Reaches
+pub mod Run
+pub mod Stages
 pub mod Tasks
 pub mod Working
 pub mod laws

@@ -13,14 +13,15 @@ use Rattle.rpm_db.specs.State.{State, state}
 use Rattle.rpm_effects.specs.declared.tally.Halt.{Halt}
 use Rattle.rpm_effects.specs.declared.tally.Halt.TheVariants as halt
 use Rattle.rpm_effects.specs.Progress.{Outputs, Through}
+use Rattle.rpm_change.specs.ByIndex.{ByIndex}
 use Rattle.rpm_change.specs.Limits.{limit_of_changes, limit_of_command}
 use Rattle.rpm_effects.specs.Steps.{Course}
 use Rattle.rpm_effects.specs.declared.answer.Why.{Why}
 use Rattle.rpm_effects.specs.declared.answer.Why.TheVariants as why
 use Rattle.rpm_commit.specs.Lawful.{IsLawfulDatabase, AreLawfulDatabases, MayBegin, IsLawfulAndSame}
-use Rattle.rpm_commit.specs.Changing.{ChangeProgressOn, ChangesWith, is_rebuilt, after}
+use Rattle.rpm_commit.specs.Changing.{is_rebuilt, after}
 use Rattle.rpm_commit.specs.Reaches.{LengthsOn, begun_store}
-use Rattle.rpm_commit.specs.Tasks.{TaskParts, is_anew, changes_index}
+use Rattle.rpm_commit.specs.Run.{Run}
 
 -- what a command is refused for first: an index that has no room, where one is made before the changes, and then what
 -- refuses the first change that is refused; where the index isn't asked, only what comes before it in a change
@@ -50,8 +51,8 @@ LimitsOn indexed anew course files given = IfOk (store files.pkg) (λ value. Mee
 
 -- the index is asked where it is rebuilt, and where the database is lawful
 abbrev pub LimitsBy : Bool → Type 0 → (State → Course) → Files → Why → Type 0
-LimitsBy anew Lawful course files given = (indexed : Bool) → (indexed ≡ true → MayBegin anew Lawful)
-    → LimitsOn indexed anew course files given
+LimitsBy anew Lawful course files given =
+    ByIndex (MayBegin anew Lawful) (λ indexed. LimitsOn indexed anew course files given)
 
 -- ---- the log
 
@@ -74,8 +75,7 @@ LogOn indexed course files others = Unit {0}
 
 -- the index is asked as above
 abbrev pub LogBy : Bool → Type 0 → (State → Course) → Files → Why → Type 0
-LogBy anew Lawful course files given = (indexed : Bool) → (indexed ≡ true → MayBegin anew Lawful)
-    → LogOn indexed course files given
+LogBy anew Lawful course files given = ByIndex (MayBegin anew Lawful) (λ indexed. LogOn indexed course files given)
 
 -- ---- a fault of the disk
 
@@ -92,17 +92,8 @@ module _ {D : Type 0} (d : disk.Ghosts D) where
     pub crashes : AreLawfulDatabases (images d old) → CrashLeaves d old new (IsLawfulAndSame (images d old))
     pub images : CrashLeaves d old new (ReopensAsOneOf (images d old))
 
+module _ {D : Type 0} {d : disk.Ghosts D} where
   -- a fault of the disk came before the commit, and nothing changed, or all lines were printed and no limit was met
-  abbrev pub FaultIs : Bool → (State → Course) → Why → D → D → Outputs → Outputs → Type 0
-  FaultIs anew course given old new before now = given ≡ why.DiskFault
-      → StoodStill old new ⊎ ToldAll anew (IsLawfulDatabase (d.files old)) course (reopened (d.files old)) before now
-
-  -- all of a command that changes packages, as the page says it of a run: what it answers, what it leaves, which limit
-  -- it is answered, when the disk failed, and how long its log is where that is refused
-  pub record OneChange (task : TaskParts) (course : State → Course) (given : Why) (changes : ℕ) (old new : D)
-      (before behind : Outputs) : Type 0 where
-    pub did : ChangeProgressOn course (d.files old) given before behind
-    pub changed : ChangesWith d (is_anew task) (changes_index task) course given changes old new
-    pub limits : LimitsBy (is_anew task) (IsLawfulDatabase (d.files old)) course (reopened (d.files old)) given
-    pub fault : FaultIs (is_anew task) course given old new before behind
-    pub log : LogBy (is_anew task) (IsLawfulDatabase (d.files old)) course (reopened (d.files old)) given
+  abbrev pub FaultIs : Run d → Bool → (State → Course) → Type 0
+  FaultIs r anew course = r.why ≡ why.DiskFault → StoodStill d r.found r.left
+      ⊎ ToldAll anew (IsLawfulDatabase (d.files r.found)) course (reopened (d.files r.found)) r.before r.after

@@ -12,6 +12,7 @@ use Rattle.rpm_db.specs.Changes.{Change}
 use Rattle.rpm_db.specs.Reaches.{found_rows}
 use Rattle.rpm_db.specs.Rows.{rows}
 use Rattle.rpm_db.specs.State.{State, state}
+use Rattle.rpm_change.specs.ByIndex.{ByIndex}
 use Rattle.rpm_change.specs.Limits.{next_stores}
 use Rattle.rpm_change.specs.Reaches.{all_added, pkg_reach, idx_reach}
 use Rattle.rpm_effects.specs.Steps.{Course}
@@ -59,5 +60,5 @@ ReachesOn indexed course files made =
 -- no file is longer than the changes of a course make it, and where the command may begin Hindex.db as they make the
 -- index of the packages
 abbrev pub ReachesBy : Bool → Type 0 → (State → Course) → Files → Files → Type 0
-ReachesBy anew Lawful course files made = (indexed : Bool) → (indexed ≡ true → MayBegin anew Lawful)
-    → ReachesOn indexed course files made
+ReachesBy anew Lawful course files made =
+    ByIndex (MayBegin anew Lawful) (λ indexed. ReachesOn indexed course files made)

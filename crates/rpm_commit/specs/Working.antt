@@ -28,8 +28,8 @@ use Rattle.rpm_effects.specs.declared.answer.Why.{Why}
 use Rattle.rpm_effects.specs.declared.answer.Why.TheVariants as why
 use Rattle.rpm_effects.specs.Answers.{RefusalIs}
 use Rattle.rpm_effects.specs.Endings.{why_of_halt}
-use Rattle.rpm_commit.specs.Changing.{ChangeProgress, BadBy, HasCurrent, IsDatabaseMade}
-use Rattle.rpm_commit.specs.Lawful.{MayBegin}
+use Rattle.rpm_commit.specs.Changing.{ChangeProgress, BadBy, IsDatabaseMade}
+use Rattle.rpm_commit.specs.Lawful.{HasUsableIndex, MayBegin}
 use Rattle.rpm_effects.specs.Classes.{is_done, is_done_or_fault, IsUncommitted}
 use Rattle.rpm_commit.specs.Reaches.{ReachesBy, StoresOn}
 
@@ -108,7 +108,7 @@ pub record Work (anew changing : Bool) (course : State → Course) (old new : Fi
   pub went : WorkBy course old.pkg (store old.pkg) new ended before now
   pub bad : BadBy changing old.pkg old.idx (why_of ended)
   pub made : IfOk ended (λ tally. IsDatabaseMade new.pkg)
-  pub index : MayBegin anew (IsLawful old.pkg old.idx) → IfOk ended (λ tally. HasCurrent new.pkg new.idx)
+  pub index : MayBegin anew (IsLawful old.pkg old.idx) → IfOk ended (λ tally. HasUsableIndex new.pkg new.idx)
   pub stored : IfOk ended (λ tally. StoresOn course old.pkg new.pkg)
   pub reached : IfOk ended (λ tally. ReachesBy anew (IsLawful old.pkg old.idx) course old new)
 

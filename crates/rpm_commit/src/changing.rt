@@ -1,7 +1,7 @@
 //! `AnswersChange` of the theorem: commands that change packages, all changes of a command line as one.
 
 ghost use Rattle.std.specs.Prelude.{◌≡◌, ◌⊎◌, ◌≤◌, true, false, IsTrue, Err, IfErr};
-ghost use Rattle.rpm_commit.specs.Prelude.{asked_task, done_why, EmptyBy, TransactionEnding, is_done, is_halt, is_of_streams, is_of_words, IsShut, IsCommandSound, KeepsAlways, laid_files, LogIs, needs_none, OneChange, overlay_below, overlay_held, overlay_starved, reads_shelf, reopened, Rose, shown_outputs, Streams, task_course, without_log};
+ghost use Rattle.rpm_commit.specs.Prelude.{AnswersChange, asked_course, asked_task, done_why, EmptyBy, TransactionEnding, is_done, is_halt, is_of_streams, is_of_words, IsShut, IsCommandSound, KeepsAlways, laid_files, LogIs, needs_none, overlay_below, overlay_held, overlay_starved, ran, reads_shelf, reopened, Rose, shown_outputs, Streams, without_log};
 
 use crate::courses::change_on;
 use crate::task::task_of;
@@ -115,10 +115,10 @@ pub fn change_asked<D: Disk, S: Shelf, O: Sink + Drop, E: Sink + Drop>(
     now: u32,
 ) -> (CommandEnding, D)
     requires sound { IsCommandSound words.now ask.now }
-    ensures one { IsTrue D.tells → (reads_shelf (asked_task words.now ask.now) ≡ true → IsTrue S.tells)
-        → OneChange D.Disk (asked_task words.now ask.now)
-        (task_course (S.paths shelf.old) now (asked_task words.now ask.now)) result.0.why result.0.changes disk result.1
-        (shown_outputs O.Sink E.Sink out.old err.old) (shown_outputs O.Sink E.Sink out.new err.new) }
+    ensures answers { IsTrue D.tells → (reads_shelf (asked_task words.now ask.now) ≡ true → IsTrue S.tells)
+        → AnswersChange (ran D.Disk words.now result.0.why result.0.changes (disk, result.1)
+        (shown_outputs O.Sink E.Sink out.old err.old, shown_outputs O.Sink E.Sink out.new err.new))
+        (asked_task words.now ask.now) (asked_course (S.paths shelf.old) now words.now ask.now) }
     ensures empty { IsTrue D.tells → EmptyBy (needs_none (asked_task words.now ask.now)) (reopened (D.files disk)) result.0.why }
     ensures keeps { KeepsAlways D.Disk result.0 disk result.1 }
     ensures streams { Streams S.Shelf O.Sink E.Sink (reads_shelf (asked_task words.now ask.now))

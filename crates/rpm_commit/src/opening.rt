@@ -23,7 +23,8 @@ fn make_blank<D: Disk>(alloc: Global, db: &mut Db, disk: &mut D) -> Result<(), W
         Ok(true) => Ok(()),
         Ok(false) => Ok(()),
         Err(ChangeFault::DiskFault) => Err(Why::DiskFault),
-        Err(_) => Err(Why::NoMemory),
+        Err(ChangeFault::NoMemory) => Err(Why::NoMemory),
+        Err(_) => unreachable!(),
     }
 }
 

@@ -3,7 +3,6 @@ pub use Rattle.rpm_effects.specs.declared.tally.Halt.TheVariants.{NoMemory}
 pub use Rattle.rpm_effects.specs.Endings.{status_of, stop_in, unless_starved, why_of_halt, why_of_load, why_of_open}
 pub use Rattle.rpm_effects.specs.Endings.{why_of_recover}
 pub use Rattle.rpm_effects.specs.Lines.{Fails}
-pub use Rattle.rpm_effects.specs.Progress.{halt_of}
 pub use Rattle.rpm_effects.specs.Texts.{absent_line, at_entry, file_text, header_text, refused_line}
 pub use Rattle.rpm_effects.specs.Answers.{PartIs}
 pub use Rattle.rpm_effects.specs.Hands.{PutsOut}

@@ -1,9 +1,8 @@
 //! How a command that changes ends.
 
 ghost use Rattle.std.specs.Prelude.{◌≡◌};
-ghost use Rattle.rpm_effects.specs.Prelude.{halt_of, NoMemory};
+ghost use Rattle.rpm_effects.specs.Prelude.{NoMemory};
 
-use rpm_db::ChangeFault;
 use std::alloc::AllocError;
 
 /// How many arguments of a command failed, and how many changes it made.
@@ -54,27 +53,6 @@ pub enum Halt {
     ErrFault,
     /// There was no memory.
     NoMemory,
-}
-
-/// What a fault of a change makes of a command. `BadHeader` doesn't come of a header that was read, `NoSuch` of a
-/// number that a package has, nor `Stopped` of a database that can be changed: so these three have no answer of their
-/// own.
-impl From<ChangeFault> for Halt {
-    ghost from_gives = { λ fault e. e ≡ halt_of fault };
-
-    fn from(fault: ChangeFault) -> Halt {
-        match fault {
-            ChangeFault::NumbersSpent => Halt::NumbersSpent,
-            ChangeFault::GenerationSpent => Halt::GenerationSpent,
-            ChangeFault::StoreFull => Halt::StoreFull,
-            ChangeFault::IndexFull { needed } => Halt::IndexFull { needed },
-            ChangeFault::BadIndex { unit } => Halt::BadIndex { unit },
-            ChangeFault::DiskFault => Halt::DiskFault,
-            ChangeFault::NoMemory => Halt::NoMemory,
-            ChangeFault::BadHeader(_) | ChangeFault::NoSuch | ChangeFault::Stopped =>
-                Halt::NoMemory,
-        }
-    }
 }
 
 impl From<AllocError> for Halt {

@@ -14,8 +14,9 @@ pub use Rattle.rpm_change.specs.laws.Going.{counted_went, none_went, stopped_wen
 pub use Rattle.rpm_change.specs.laws.Parts.{Going, going_begin, going_end, going_more, going_stop}
 pub use Rattle.rpm_change.specs.laws.Handing.{err_is}
 pub use Rattle.rpm_effects.specs.laws.Joins.{out_gone, quiet_joins, quiet_none, quiet_stopped, cause_then}
+pub use Rattle.rpm_change.specs.inner.IndexLaws.{at_index, by_index}
 pub use Rattle.rpm_change.specs.laws.Leaving.{current_left, none_by, remade_log, remade_then, state_remade}
-pub use Rattle.rpm_change.specs.laws.Owing.{list_durable, list_stopped, list_unsettled, owing_begun, owing_none, owing_then}
+pub use Rattle.rpm_change.specs.laws.Owing.{list_finished, list_stopped, list_unfinished, owing_begun, owing_none, owing_then}
 pub use Rattle.rpm_change.specs.laws.Reading.{left_read, looks_run, reads_on}
 pub use Rattle.rpm_change.specs.laws.Single.{other_stop}
 pub use Rattle.rpm_change.specs.laws.Telling.{told_all, told_none, told_part}

@@ -4,7 +4,7 @@ ghost use Rattle.std.specs.Prelude.{◌≡◌, ◌+◌, ◌<◌, ◌≤◌, [], 
 ghost use Rattle.rpm_exercise.specs.Prelude.{change_at, changes, changes_after, GathersThrough, holds, IsGathering, HasTarget, IsReady, made_blob, round_changes, state_in, round_turn, ChangesProgress};
 
 use crate::headers::generated;
-use rpm_change::{put_within, take_within};
+use rpm_change::{halt_of, put_within, take_within};
 use rpm_db::{Batch, Db};
 use rpm_effects::{Halt, IDLE, Tally};
 use rpm_outside::Disk;
@@ -166,6 +166,8 @@ pub fn change_all<D: Disk>(alloc: Global, db: &mut Db, disk: &mut D, n: u32) -> 
     let b = db.next_number().saturating_sub(1);
     let mut batch = Batch::begin(alloc, db);
     let tally = go_rounds(alloc, db, disk, &mut batch, b, n)?;
-    batch.finish(alloc, db, disk)?;
-    Ok(tally)
+    match batch.finish(alloc, db, disk) {
+        Ok(()) => Ok(tally),
+        Err(fault) => Err(halt_of(fault)),
+    }
 }

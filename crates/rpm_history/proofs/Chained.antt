@@ -5,7 +5,7 @@ use Rattle.std.proofs.lemmas.List.{append-nil}
 use Rattle.rpm_history.proofs.Vocabulary.{after, AllRowsFit, AllStand, AreLawfulDatabases, asks, Between, ChangesWith, Course, course_of, Cuts, Files, FromOneOf}
 use Rattle.rpm_history.proofs.Vocabulary.{given_on, HasState, images, InTurn, InTurnBefore, is_done, LeadsByLines, leaves_then, leaves_weaker, CrashLeaves, LeavesState}
 use Rattle.rpm_history.proofs.Vocabulary.{LineIs, LineStays, Moves, Paths, reopened, RowsFit, RunCall, Says, RepresentsState, started, State, state, Store, store}
-use Rattle.rpm_history.proofs.Vocabulary.{TellsCalls, Units, Why}
+use Rattle.rpm_history.proofs.Vocabulary.{Outputs, Run, run_of, TellsCalls, Units, Why}
 use Rattle.rpm_commit.specs.laws.Brokens.{by_bool}
 use Rattle.rpm_history.proofs.Fitting.{course_fits}
 use Rattle.rpm_history.proofs.Histories.{Cut, cut_stands, line_fits, LineDoes, Next, next_all, stands_weaker, moves_nothing}
@@ -77,22 +77,21 @@ module _ {D S O E : Type 0} (d : disk.Ghosts D) (told : IsTrue d.tells) (s : she
   lines_led (call ∷ calls) old new tells (mid, line, rest) P all =
       let does = line_does d told s o e paths call old mid tells.0 line in
       let given = call.outcome.why in
-      let n = call.outcome.changes in
       let P1 : State → Type 0 = Next (course_in call) given P in
       let Q : Files → Type 0 = RepresentsState (CutsFrom P (call ∷ calls)) in
       let here = as_read old.disk in
       let later = lines_led calls mid new tells.1 rest P1
-      (next_all d (course_in call) given n old.disk mid.disk P all here (earlier mid.disk) does) in (
+      (next_all (run_of d s o e call old mid line.answers.mid) (course_in call) P all here (earlier mid.disk) does) in (
         λ image left. stands_weaker (LeadsFrom P1 calls) (LeadsFrom P (call ∷ calls)) image
             (λ t how. (how.1.0, how.1.1, (how.0, how.1.2, how.2))) (later.0 image left),
         leaves_then d old.disk mid.disk new.disk Q
             (leaves_weaker d old.disk mid.disk (RepresentsState (Cut (course_in call) given P)) Q
             (λ image. stands_weaker (Cut (course_in call) given P) (CutsFrom P (call ∷ calls)) image (cut_within call calls P))
-            (cut_stands d (course_in call) given n old.disk mid.disk P all here does))
+            (cut_stands (run_of d s o e call old mid line.answers.mid) (course_in call) P all here does))
             (leaves_weaker d mid.disk new.disk (RepresentsState (CutsFrom P1 calls)) Q
             (λ image. stands_weaker (CutsFrom P1 calls) (CutsFrom P (call ∷ calls)) image (cut_behind call calls P)) later.1),
         λ fit.
-            let so_far = line_fits d (course_in call) given n old.disk mid.disk P all here does fit in
+            let so_far = line_fits (run_of d s o e call old mid line.answers.mid) (course_in call) P all here does fit in
             leaves_then d old.disk mid.disk new.disk RowsFit so_far (later.2 (λ image left. so_far.each image
             (earlier mid.disk (d.moment old.disk) (d.moment mid.disk) image so_far.later (omega arith) left))),
       )
@@ -118,8 +117,8 @@ module _ {D S O E : Type 0} (d : disk.Ghosts D) (told : IsTrue d.tells) (s : she
 
   -- from the state after changes that were done
   acknowledged : (call : RunCall) (calls : List RunCall) (old mid new : Between D S O E) → TellsCalls s.tells calls → Lines calls mid new
-      → AreLawfulDatabases (images d mid.disk) → {anew changing : Bool}
-      → ChangesWith d anew changing (course_in call) call.outcome.why call.outcome.changes old.disk mid.disk → is_done call.outcome.why ≡ true
+      → AreLawfulDatabases (images d mid.disk) → {anew changing : Bool} {printed : Outputs}
+      → ChangesWith (run_of d s o e call old mid printed) anew changing (course_in call) → is_done call.outcome.why ≡ true
       → (value : Store) → store (reopened (d.files old.disk)).pkg ≡ Ok value
       → CrashLeaves d mid.disk new.disk (RepresentsState (Cuts paths calls (after (course_in call) (state (reopened (d.files old.disk)).pkg value))))
   acknowledged call calls old mid new tells rest lawful did done value undamaged =
@@ -139,7 +138,7 @@ module _ {D S O E : Type 0} (d : disk.Ghosts D) (told : IsTrue d.tells) (s : she
       let at = images d old.disk in
       let P : State → Type 0 = FromOneOf at (λ m t. t ≡ m) in
       let all : AllStand P at = λ image left. from_itself at (λ m t. t ≡ m) (λ m. refl) image left (lawful image left) in
-      let next = next_all d (course_in call) call.outcome.why call.outcome.changes old.disk mid.disk P all (as_read old.disk) (earlier mid.disk)
+      let next = next_all (run_of d s o e call old mid line.answers.mid) (course_in call) P all (as_read old.disk) (earlier mid.disk)
       (line_does d told s o e paths call old mid tells.0 line) in
       let behind : AreLawfulDatabases (images d mid.disk) = λ image left. (next image left).lawful in
       let first = (all (d.files old.disk) (as_read old.disk)).says in (
@@ -161,6 +160,9 @@ module _ {D S O E : Type 0} (d : disk.Ghosts D) (told : IsTrue d.tells) (s : she
     abbrev course : State → Course
     course = course_in call
 
+    abbrev r : Run d
+    r = run_of d s o e call old new line.answers.mid
+
     abbrev Rise : List ℕ → Type 0
     Rise ns = AllStand (Numbered from ns) (images d new.disk)
 
@@ -175,7 +177,7 @@ module _ {D S O E : Type 0} (d : disk.Ghosts D) (told : IsTrue d.tells) (s : she
 
     -- where it was done, and changed packages
     made : AllStand (Next course call.outcome.why (Numbered from old.given)) (images d new.disk) → {anew changing : Bool}
-        → ChangesWith d anew changing course call.outcome.why call.outcome.changes old.disk new.disk → is_done call.outcome.why ≡ true → Rise new.given
+        → ChangesWith r anew changing course → is_done call.outcome.why ≡ true → Rise new.given
     made next did done image left =
         let first : Says (Numbered from old.given) (reopened (d.files old.disk)).pkg = (all (d.files old.disk) (as_read old.disk)).says in
         let s0 = state (reopened (d.files old.disk)).pkg first.value in
@@ -193,11 +195,11 @@ module _ {D S O E : Type 0} (d : disk.Ghosts D) (told : IsTrue d.tells) (s : she
           };
         }
 
-    line_rises : LineDoes d course call.outcome.why call.outcome.changes old.disk new.disk → Rise new.given
+    line_rises : LineDoes r course → Rise new.given
     line_rises does = rises does
-        (next_all d course call.outcome.why call.outcome.changes old.disk new.disk (Numbered from old.given) all (as_read old.disk) (earlier new.disk) does)
+        (next_all r course (Numbered from old.given) all (as_read old.disk) (earlier new.disk) does)
       where
-        rises : LineDoes d course call.outcome.why call.outcome.changes old.disk new.disk
+        rises : LineDoes r course
             → AllStand (Next course call.outcome.why (Numbered from old.given)) (images d new.disk) → Rise new.given
         rises (inl stood) next = kept next (given_nothing course stood.nothing (d.files old.disk) call.outcome.why)
         rises (inr (anew, changing, did)) next = by_bool (is_done call.outcome.why) (made next did)
@@ -220,20 +222,20 @@ module _ (course : State → Course) (s : State) (n : ℕ) (files : Files) where
   left_moves why.DiskFault left = ⊎_elim (λ was. (s, was, inl refl)) (λ made. (after course s, made, inr refl)) left.1
   left_moves others left = (s, left.1, refl)
 
-module _ {D : Type 0} (d : disk.Ghosts D) where
-  line_moves : (course : State → Course) (given : Why) (n : ℕ) (old new : D) (s : State) → HasState s (d.files old) → LineDoes d course given n old new
-      → Stands given (after course s) s (d.files new)
-  line_moves course given n old new s has (inl stood) =
-      (s, subst (λ (pkg : Units). Says (λ t. t ≡ s) pkg) (sym stood.pkg) has, moves_nothing course stood.nothing given s)
-  line_moves course given n old new s has (inr (anew, changing, did)) = left_moves course s n (d.files new) given
-      (subst (λ (t : State). LeavesState course t given n (d.files new)) has.is
-      (if_ok_at _ (store (reopened (d.files old)).pkg) has.value has.undamaged did.leaves))
+module _ {D : Type 0} {d : disk.Ghosts D} (r : Run d) where
+  line_moves : (course : State → Course) (s : State) → HasState s (d.files r.found) → LineDoes r course
+      → Stands r.why (after course s) s (d.files r.left)
+  line_moves course s has (inl stood) =
+      (s, subst (λ (pkg : Units). Says (λ t. t ≡ s) pkg) (sym stood.pkg) has, moves_nothing course stood.nothing r.why s)
+  line_moves course s has (inr (anew, changing, did)) = left_moves course s r.changes (d.files r.left) r.why
+      (subst (λ (t : State). LeavesState course t r.why r.changes (d.files r.left)) has.is
+      (if_ok_at _ (store (reopened (d.files r.found)).pkg) has.value has.undamaged did.state_is))
 
 module _ {D S O E : Type 0} (d : disk.Ghosts D) (told : IsTrue d.tells) (s : shelf.Ghosts S) (o : sink.Ghosts O) (e : sink.Ghosts E) (paths : Paths) where
   pub lines_lead : (calls : List RunCall) (old new : Between D S O E) → TellsCalls s.tells calls → InTurn (LineIs d s o e paths) calls old new
       → (m : State) → HasState m (d.files old.disk) → (t : State) × HasState t (d.files new.disk) × LeadsByLines paths calls m t
   lines_lead [] old new tells same m has = (m, subst (λ (b : Between D S O E). HasState m (d.files b.disk)) (sym same) has, refl)
   lines_lead (call ∷ calls) old new tells (mid, line, rest) m has =
-      let first = line_moves d _ _ _ old.disk mid.disk m has (line_does d told s o e paths call old mid tells.0 line) in
+      let first = line_moves (run_of d s o e call old mid line.answers.mid) _ m has (line_does d told s o e paths call old mid tells.0 line) in
       let later = lines_lead calls mid new tells.1 rest first.0 first.1 in
       (later.0, later.1, (first.0, first.2, later.2))

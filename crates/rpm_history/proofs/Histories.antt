@@ -1,7 +1,7 @@
 -- One command line more: what the database represents after it, given what it represented before.
 use Rattle.std.proofs.Common.{◌≡◌, ◌⊎◌, ℕ, ◌≤◌, Bool, false, refl, sym, ap, subst, inl, inr, ⊎_elim, arith, true}
 use Rattle.rpm_history.proofs.Vocabulary.{after, AllRowsFit, AllStand, apply_all, AreLawfulDatabases, ChangesWith, Course, Files, HasState, idle, images, is_done}
-use Rattle.rpm_history.proofs.Vocabulary.{is_done_or_fault, leaves_weaker, CrashLeaves, Moves, reopened, RowsFit, Says, RepresentsState, IsLawfulAndSame, IsLawfulAndSameOr}
+use Rattle.rpm_history.proofs.Vocabulary.{is_done_or_fault, leaves_weaker, CrashLeaves, Moves, reopened, RowsFit, Run, Says, RepresentsState, IsLawfulAndSame, IsLawfulAndSameOr}
 use Rattle.rpm_history.proofs.Vocabulary.{State, state, store, Units, Why}
 use Rattle.rpm_commit.specs.laws.Brokens.{by_bool}
 use Rattle.rpm_commit.specs.laws.Recovered.{still_fits}
@@ -45,8 +45,8 @@ pub record Stood {D : Type 0} (d : disk.Ghosts D) (course : State → Course) (o
   pub crashes : AreLawfulDatabases (images d old) → CrashLeaves d old new (IsLawfulAndSame (images d old))
 
 -- or its course changed them
-abbrev pub LineDoes : {D : Type 0} (d : disk.Ghosts D) → (State → Course) → Why → ℕ → D → D → Type 0
-LineDoes d course given n old new = Stood d course old new ⊎ ((anew changing : Bool) × ChangesWith d anew changing course given n old new)
+abbrev pub LineDoes : {D : Type 0} {d : disk.Ghosts D} → Run d → (State → Course) → Type 0
+LineDoes {d = d} r course = Stood d course r.found r.left ⊎ ((anew changing : Bool) × ChangesWith r anew changing course)
 
 pub moves_nothing : (course : State → Course) → ((s : State) → course s ≡ idle) → (given : Why) (s : State) → Moves given (after course s) s s
 moves_nothing course nothing given s =
@@ -60,8 +60,17 @@ Next course given P t = (m : State) × P m × Moves given (after course m) m t
 abbrev pub Cut : (State → Course) → Why → (State → Type 0) → State → Type 0
 Cut course given P t = (m : State) × P m × ((t ≡ m) ⊎ Moves given (after course m) m t)
 
-module _ {D : Type 0} (d : disk.Ghosts D) (course : State → Course) (given : Why) (n : ℕ) (old new : D) (P : State → Type 0)
-    (all : AllStand P (images d old)) (here : images d old (d.files old)) where
+module _ {D : Type 0} {d : disk.Ghosts D} (r : Run d) (course : State → Course) (P : State → Type 0)
+    (all : AllStand P (images d r.found)) (here : images d r.found (d.files r.found)) where
+  abbrev given : Why
+  given = r.why
+
+  abbrev old : D
+  old = r.found
+
+  abbrev new : D
+  new = r.left
+
   abbrev past : Files → Type 0
   past = images d old
 
@@ -79,14 +88,14 @@ module _ {D : Type 0} (d : disk.Ghosts D) (course : State → Course) (given : W
 
   -- ---- a command that changes packages
 
-  module _ (anew changing : Bool) (did : ChangesWith d anew changing course given n old new) where
+  module _ (anew changing : Bool) (did : ChangesWith r anew changing course) where
     first : Says P (reopened (d.files old)).pkg
     first = (all (d.files old) here).says
 
     abbrev s0 : State
     s0 = state (reopened (d.files old)).pkg first.value
 
-    stops : CrashLeaves d old new (IsLawfulAndSameOr past (after course s0))
+    crashes : CrashLeaves d old new (IsLawfulAndSameOr past (after course s0))
     crashes = if_ok_at _ (store (reopened (d.files old)).pkg) first.value first.undamaged (did.crashes lawful)
 
     made_next : (image : Files) → HasState (after course s0) image → Moves given (after course s0) s0 (after course s0)
@@ -100,14 +109,14 @@ module _ {D : Type 0} (d : disk.Ghosts D) (course : State → Course) (given : W
     changed_next : (image : Files) → d.left_since new (d.moment old) image → images d new image → Behind image
     changed_next image since left = by_bool (is_done given)
         (λ done. record {
-          lawful = ⊎_elim (λ still. still.lawful) (λ both. both.0) (stops.each image since);
+          lawful = ⊎_elim (λ still. still.lawful) (λ both. both.0) (crashes.each image since);
           says = made_next image (if_ok_at _ (store (reopened (d.files old)).pkg) first.value first.undamaged (did.held done) image left)
               ((moves_are given s0 (after course s0)).0 done);
         })
         (λ undone. by_bool (is_done_or_fault given)
         (λ may. ⊎_elim (same_next (λ t. (moves_are given t (after course t)).2 undone) image)
         (λ both. record { lawful = both.0; says = made_next image both.1 ((moves_are given s0 (after course s0)).1 may) })
-        (stops.each image since))
+        (crashes.each image since))
         (λ refused. same_next (λ t. (moves_are given t (after course t)).2 undone) image ((did.unmade refused lawful).each image since)))
 
     changed_cut : Moves given (after course s0) s0 (after course s0) → (image : Files) → IsLawfulAndSameOr past (after course s0) image
@@ -124,25 +133,25 @@ module _ {D : Type 0} (d : disk.Ghosts D) (course : State → Course) (given : W
     changed_cuts : CrashLeaves d old new (RepresentsState (Cut course given P))
     changed_cuts = by_bool (is_done_or_fault given)
         (λ may. leaves_weaker d old new (IsLawfulAndSameOr past (after course s0)) (RepresentsState (Cut course given P))
-        (changed_cut ((moves_are given s0 (after course s0)).1 may)) stops)
+        (changed_cut ((moves_are given s0 (after course s0)).1 may)) crashes)
         (λ refused. leaves_weaker d old new (IsLawfulAndSame past) (RepresentsState (Cut course given P)) same_cut (did.unmade refused lawful))
 
   -- ---- any
 
-  pub cut_stands : LineDoes d course given n old new → CrashLeaves d old new (RepresentsState (Cut course given P))
+  pub cut_stands : LineDoes r course → CrashLeaves d old new (RepresentsState (Cut course given P))
   cut_stands (inl stood) = leaves_weaker d old new (IsLawfulAndSame past) (RepresentsState (Cut course given P)) same_cut (stood.crashes lawful)
   cut_stands (inr (anew, changing, did)) = changed_cuts anew changing did
 
-  next_stands : LineDoes d course given n old new → (image : Files) → d.left_since new (d.moment old) image → images d new image → Behind image
+  next_stands : LineDoes r course → (image : Files) → d.left_since new (d.moment old) image → images d new image → Behind image
   next_stands (inl stood) image since left = same_next (moves_nothing course stood.nothing given) image ((stood.crashes lawful).each image since)
   next_stands (inr (anew, changing, did)) image since left = changed_next anew changing did image since left
 
   pub next_all : ((s t : ℕ) (image : Files) → s ≤ t → t ≤ d.moment new → d.left_since new t image → d.left_since new s image)
-      → LineDoes d course given n old new → AllStand (Next course given P) (images d new)
+      → LineDoes r course → AllStand (Next course given P) (images d new)
   next_all earlier does image left =
       next_stands does image (earlier (d.moment old) (d.moment new) image (cut_stands does).later (omega arith) left) left
 
   -- the rows fit after it, whatever stops it
-  pub line_fits : LineDoes d course given n old new → AllRowsFit past → CrashLeaves d old new RowsFit
+  pub line_fits : LineDoes r course → AllRowsFit past → CrashLeaves d old new RowsFit
   line_fits (inl stood) fit = leaves_weaker d old new (IsLawfulAndSame past) RowsFit (still_fits past fit) (stood.crashes lawful)
   line_fits (inr (anew, changing, did)) fit = did.fits lawful fit

@@ -4,7 +4,7 @@ use Rattle.std.specs.Prelude.{Option, Some, None, IsTrue, if◌then◌else◌}
 use Rattle.rpm_history.proofs.Vocabulary.{Adding, asked_course, asked_task, AskParts, asks, Between, by_key, calls_of, changes_index, Course, course_of, Files}
 use Rattle.rpm_history.proofs.Vocabulary.{FromOneOf, idle, Importing, is_anew, is_changing, IsLawfulDatabase, OnlyReadsPackages, Line, LineIs, of_files, Outcome, Paths}
 use Rattle.rpm_history.proofs.Vocabulary.{reads_shelf, reopened, Replacing, RunCall, RepresentsState, IsLawfulAndSame, State, state, task_course, TaskParts, TellsCalls}
-use Rattle.rpm_history.proofs.Vocabulary.{ChangesWith, AnswersCommand, run_of, TellsLines, Tree, uses_in, uses_shelf}
+use Rattle.rpm_history.proofs.Vocabulary.{ChangesWith, AnswersCommand, Run, run_of, setting_of, TellsLines, Tree, uses_in, uses_shelf}
 use Rattle.rpm_outside.specs.Frame.{images, CrashLeaves}
 use Rattle.rpm_commit.specs.laws.Brokens.{by_bool}
 use Rattle.rpm_history.proofs.Histories.{LineDoes, Stood}
@@ -77,15 +77,18 @@ module _ {D S O E : Type 0} (d : disk.Ghosts D) (told : IsTrue d.tells) (s : she
   abbrev words : List (List ℕ)
   words = call.words
 
+  -- the run that it was
+  abbrev r : Run d
+  r = run_of d s o e call old new line.answers.mid
+
   abbrev past : Files → Type 0
   past = images d old.disk
 
   abbrev LineDid : (State → Course) → Type 0
-  LineDid course = LineDoes d course call.outcome.why call.outcome.changes old.disk new.disk
+  LineDid course = LineDoes r course
 
   abbrev Changed : AskParts → (State → Course) → Type 0
-  Changed a course =
-      ChangesWith d (is_anew (asked_task words a)) (changes_index (asked_task words a)) course call.outcome.why call.outcome.changes old.disk new.disk
+  Changed a course = ChangesWith r (is_anew (asked_task words a)) (changes_index (asked_task words a)) course
 
   -- by whether the command changes packages
   abbrev course_if : AskParts → Bool → State → Course
@@ -116,7 +119,7 @@ module _ {D S O E : Type 0} (d : disk.Ghosts D) (told : IsTrue d.tells) (s : she
 
   -- ---- what the page says of it
 
-  does : (a : AskParts) (tree : Tree) → asks words ≡ Some (a, tree) → AnswersCommand (run_of d s o e call old new) a tree line.answers.mid
+  does : (a : AskParts) (tree : Tree) → asks words ≡ Some (a, tree) → AnswersCommand r (setting_of d s o e call old new) a tree
   does a tree asked = line.answers.did.asked a tree asked
 
   -- the course is the same by what the shelf held at first

@@ -3,10 +3,12 @@ pub use Rattle.rpm_change.specs.Adding.{add_file, as_installed, put_found, put_i
 pub use Rattle.rpm_change.specs.Erasing.{erase_one, erasure}
 pub use Rattle.rpm_change.specs.Importing.{import_end, import_from, import_list, imported_header, listed_headers, max_headers, place_fails}
 pub use Rattle.rpm_change.specs.Rebuilding.{drop_each}
+pub use Rattle.rpm_effects.specs.Progress.{Outputs}
 pub use Rattle.rpm_effects.specs.Steps.{apply_all, Course, idle, in_turn}
 pub use Rattle.rpm_change.specs.declared.add.Placing.{Placing}
 pub use Rattle.rpm_commit.specs.Changing.{after, AllRowsFit, ChangesWith, HasState, LeavesState, RowsFit, IsLawfulAndSameOr}
 pub use Rattle.rpm_commit.specs.Lawful.{AreLawfulDatabases, IsLawfulDatabase, IsLawfulAndSame}
+pub use Rattle.rpm_commit.specs.Run.{Run}
 pub use Rattle.rpm_commit.specs.Tasks.{Adding, asked_course, asked_task, changes_index, Erasing, Exercising, Importing, is_anew, Making, reads_shelf}
 pub use Rattle.rpm_commit.specs.Tasks.{Rebuilding, Replacing, task_course, TaskParts}
 pub use Rattle.rpm_db.specs.Changes.{Add, apply, Change, Erase, greatest_in, next, Put, Says}
@@ -22,7 +24,7 @@ pub use Rattle.rpm_header.specs.declared.form.HeaderFault.{HeaderFault}
 pub use Rattle.rpm_history.specs.Given.{given_in, given_on, IsAhead, numbers_given, RiseWithin}
 pub use Rattle.rpm_history.specs.History.{AllStand, calls_of, course_of, Cuts, FromOneOf, LeadsByLines, Moves, RunCall, RepresentsState, TellsCalls, TellsLines}
 pub use Rattle.rpm_history.specs.History.{uses_in, uses_shelf}
-pub use Rattle.rpm_history.specs.Lines.{between, Between, InTurn, InTurnBefore, LineIs, LineStays, run_of}
+pub use Rattle.rpm_history.specs.Lines.{between, Between, InTurn, InTurnBefore, LineIs, LineStays, run_of, setting_of}
 pub use Rattle.rpm_history.specs.declared.several.Line.{Line}
 pub use Rattle.rpm_outside.specs.Files.{Files, Units}
 pub use Rattle.rpm_outside.specs.Frame.{images, CrashLeaves}

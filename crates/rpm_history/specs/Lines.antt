@@ -19,7 +19,8 @@ use Rattle.rpm_outside.specs.Frame.{images, CrashLeaves}
 use Rattle.rpm_effects.specs.Shown.{outs}
 use Rattle.rpm_history.specs.Given.{given_on}
 use Rattle.rpm_history.specs.History.{RunCall, course_of, made_by, Cuts, FromOneOf, RepresentsState}
-use Rattle.rpm_tool.specs.Theorem.{Run, ran, AnswersWords, Answers, Causes}
+use Rattle.rpm_effects.specs.Progress.{Outputs}
+use Rattle.rpm_tool.specs.Theorem.{Run, ran, Setting, setting_at, AnswersWords, Answers, Causes}
 
 -- what stands between two command lines: the disk, the shelf and both sinks, and the numbers that new packages were
 -- given by the lines that were done
@@ -46,11 +47,14 @@ InTurnBefore Each [] old new = new ≡ old
 InTurnBefore {X} Each (call ∷ calls) old new = (mid : X) × Each call calls old mid new × InTurnBefore Each calls mid new
 
 module _ {D S O E : Type 0} (d : disk.Ghosts D) (s : shelf.Ghosts S) (o : sink.Ghosts O) (e : sink.Ghosts E) where
-  -- the run that a command line is, by what stood before it and after it
-  abbrev pub run_of : RunCall → Between D S O E → Between D S O E → Run d s
-  run_of call old new = ran d s call.words call.moment call.outcome.why call.outcome.changes (old.disk, old.shelf)
-      (outs o e old.out old.err)
-      (new.disk, new.shelf)
+  -- the run that a command line is, by what stood before it and after it, and what was printed before the closing line
+  abbrev pub run_of : RunCall → Between D S O E → Between D S O E → Outputs → Run d
+  run_of call old new mid = ran d call.words call.outcome.why call.outcome.changes (old.disk, new.disk)
+      (outs o e old.out old.err, mid)
+
+  -- a command line has its moment, and the shelf as it stood before it and after it
+  abbrev pub setting_of : RunCall → Between D S O E → Between D S O E → Setting s
+  setting_of call old new = setting_at s call.moment (old.shelf, new.shelf)
 
   -- how a command line ended, and what it left: each clause of `run` but its laws, with a shelf that tells the same
   -- contents as at first
@@ -58,8 +62,8 @@ module _ {D S O E : Type 0} (d : disk.Ghosts D) (s : shelf.Ghosts S) (o : sink.G
     pub status : call.outcome.status ≡ status_of call.outcome.why
     pub words : AnswersWords call.words call.outcome.why
     pub unread : asks call.words ≡ None → (new.disk ≡ old.disk) × (new.shelf ≡ old.shelf) × (new.out ≡ old.out)
-    pub answers : ClosingEnding (Answers (run_of call old new)) (closing call.words call.outcome.why)
-        (outs o e new.out new.err) (e.faults old.err) (e.faults new.err)
+    pub answers : ClosingEnding (λ mid. Answers (run_of call old new mid) (setting_of call old new))
+        (closing call.words call.outcome.why) (outs o e new.out new.err) (e.faults old.err) (e.faults new.err)
     pub causes : Causes d s o e call.outcome.why (old.disk, old.shelf, old.out, old.err)
         (new.disk, new.shelf, new.out, new.err)
     pub shelf : IsTrue s.tells → s.paths old.shelf ≡ paths
@@ -77,4 +81,5 @@ module _ {D S O E : Type 0} (d : disk.Ghosts D) (s : shelf.Ghosts S) (o : sink.G
     pub acknowledged : (a : AskParts) (tree : Tree) → asks call.words ≡ Some (a, tree) → is_changing a ≡ true
         → is_done call.outcome.why ≡ true
         → IfOk (store (reopened (d.files old.disk)).pkg) (λ value. CrashLeaves d mid.disk new.disk
-        (RepresentsState (Cuts paths behind (made_by paths call.moment call.words (state (reopened (d.files old.disk)).pkg value)))))
+        (RepresentsState (Cuts paths behind (made_by paths call.moment call.words
+        (state (reopened (d.files old.disk)).pkg value)))))

@@ -35,7 +35,7 @@ Pages: man rpm-q, man rpmdb
 ";
 
 /// The text of `--version`, which is the newest one of docs/CHANGELOG.md.
-pub(crate) const VERSION: &[u8] = b"juzkarg 1.2.0\n";
+pub(crate) const VERSION: &[u8] = b"juzkarg 1.3.0\n";
 
 /// Prints a text in one piece.
 pub fn print_text<O: Sink + Drop>(text: &[u8], out: &mut Buffered<O>) -> Why

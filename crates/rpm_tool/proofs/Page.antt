@@ -4,11 +4,11 @@ use Rattle.std.specs.Prelude.{◌⊎◌, IsTrue}
 use Rattle.rpm_outside.specs.declared.disk.Disk as disk
 use Rattle.rpm_outside.specs.declared.shelf.Shelf as shelf
 use Rattle.rpm_outside.specs.declared.sink.Sink as sink
-use Rattle.rpm_tool.proofs.Vocabulary.{Answers, AnswersByKey, AnswersChange, AnswersKeyed, AnswersOfFiles, AnswersPlain, AnswersText, asked_course, ask, asked_task}
+use Rattle.rpm_tool.proofs.Vocabulary.{Answers, AnswersChange, AnswersKeyed, AnswersOfFiles, AnswersPlain, AnswersText, asked_course, ask, asked_task}
 use Rattle.rpm_tool.proofs.Vocabulary.{AskParts, asks_change, asks_format, Buffered, by_key, changes_in, AnswersCommand, EmptyBy, is_changing, is_done, is_foreign}
-use Rattle.rpm_tool.proofs.Vocabulary.{HasCauseAt, inner, is_of_words, OnlyReadsPackages, needs_none, of_files, OneChange, Outputs, outputs, Pkg, ran, reads_shelf}
-use Rattle.rpm_tool.proofs.Vocabulary.{reopened, Run, Streams}
-use Rattle.rpm_tool.proofs.Vocabulary.{task_course, text_of, Tree, Why}
+use Rattle.rpm_tool.proofs.Vocabulary.{HasCauseAt, inner, is_of_words, OnlyReadsPackages, needs_none, of_files, outputs, Pkg, ran, reads_shelf}
+use Rattle.rpm_tool.proofs.Vocabulary.{reopened, Run, setting_at, Setting, Streams}
+use Rattle.rpm_tool.proofs.Vocabulary.{text_of, Tree, Why}
 use Rattle.rpm_effects.specs.Hands.{Hand, EndHands}
 use Rattle.rpm_effects.specs.declared.answer.Why.TheVariants as why
 use Rattle.rpm_tool.proofs.Begun.{change_untold, files_unchanging, files_unkeyed, files_untold, keyed_unchanging, keyed_untold, not_begun, unforeign}
@@ -27,30 +27,9 @@ clash is not = let both : true ≡ false = sym is ∙ not in absurd cc
 none_said : {P : Type 0} {X : Type 0} {o : _} {x : X} → o ≡ None → o ≡ Some x → P
 none_said {x = x} none some = let both : None ≡ Some x = sym none ∙ some in absurd cc
 
-module _ {D S : Type 0} {d : disk.Ghosts D} {s : shelf.Ghosts S} {r : Run d s} {a : AskParts} {mid : Outputs} where
-  change_of : OneChange d (asked_task r.words a) (task_course (s.paths r.shelf_found) r.moment (asked_task r.words a)) r.why r.changes r.found r.left
-      r.before mid → AnswersChange r a (asked_course (s.paths r.shelf_found) r.moment r.words a) mid
-  change_of one = record { did = one.did; changed = one.changed; limits = one.limits; fault = one.fault; log = one.log }
-
-module _ {D S : Type 0} {d : disk.Ghosts D} {s : shelf.Ghosts S} {r : Run d s} {a : AskParts} {tree : Tree} {mid : Outputs} where
-  keyed_of : AnswersByKey d tree r.words a r.why r.before mid r.found r.left → AnswersKeyed r a tree mid
-  keyed_of k = record {
-    went = k.went;
-    reads = k.reads;
-    kind = k.kind;
-    full = k.full;
-    bad = k.bad;
-    complete = k.complete;
-    index = k.index;
-    packages = k.packages;
-    kept = k.kept;
-    still = k.still;
-    leaves = k.leaves;
-    crashes = k.crashes;
-  }
-
+module _ {D S : Type 0} {d : disk.Ghosts D} {s : shelf.Ghosts S} {r : Run d} {at : Setting s} {a : AskParts} {tree : Tree} where
   pub does_plain : of_files a ≡ false → by_key a ≡ false → is_changing a ≡ false → text_of a.mode ≡ None
-      → (IsTrue d.tells → AnswersPlain r a tree mid) → OnlyReadsPackages d r.found r.left → r.shelf_left ≡ r.shelf_found → AnswersCommand r a tree mid
+      → (IsTrue d.tells → AnswersPlain r a tree) → OnlyReadsPackages d r.found r.left → at.shelf_left ≡ at.shelf → AnswersCommand r at a tree
   does_plain files keyed changing untold went looks shelf = record {
     plain = λ _f _k _c _t told. went told;
     files = λ is. clash is files;
@@ -62,7 +41,7 @@ module _ {D S : Type 0} {d : disk.Ghosts D} {s : shelf.Ghosts S} {r : Run d s} {
     shelf_unread = λ _f _r. shelf;
   }
 
-  pub does_files : of_files a ≡ true → AnswersOfFiles r a tree mid → OnlyReadsPackages d r.found r.left → AnswersCommand r a tree mid
+  pub does_files : of_files a ≡ true → AnswersOfFiles r at a tree → OnlyReadsPackages d r.found r.left → AnswersCommand r at a tree
   does_files files went looks = record {
     plain = λ other _k _c _t told. clash files other;
     files = λ is. went;
@@ -75,13 +54,13 @@ module _ {D S : Type 0} {d : disk.Ghosts D} {s : shelf.Ghosts S} {r : Run d s} {
   }
 
   pub does_keyed : by_key a ≡ true
-      → (IsTrue d.tells → AnswersByKey d tree r.words a r.why r.before mid r.found r.left)
-      → r.shelf_left ≡ r.shelf_found → AnswersCommand r a tree mid
+      → (IsTrue d.tells → AnswersKeyed r a tree)
+      → at.shelf_left ≡ at.shelf → AnswersCommand r at a tree
   does_keyed keyed went shelf = record {
     plain = λ _f other _c _t told. clash keyed other;
     files = λ is. absurd (files_unkeyed a is keyed);
     text = λ text said. absurd (keyed_untold a text keyed said);
-    keyed = λ is told. keyed_of (went told);
+    keyed = λ is told. went told;
     changes = λ is told reads. absurd (keyed_unchanging a keyed is);
     empty = λ is told. absurd (keyed_unchanging a keyed is);
     looks = λ other _c. clash keyed other;
@@ -90,27 +69,26 @@ module _ {D S : Type 0} {d : disk.Ghosts D} {s : shelf.Ghosts S} {r : Run d s} {
 
   pub does_change : is_changing a ≡ true
       → (IsTrue d.tells → (reads_shelf (asked_task r.words a) ≡ true → IsTrue s.tells)
-      → OneChange d (asked_task r.words a) (task_course (s.paths r.shelf_found) r.moment (asked_task r.words a)) r.why r.changes r.found r.left r.before
-      mid)
+      → AnswersChange r (asked_task r.words a) (asked_course (s.paths at.shelf) at.moment r.words a))
       → (IsTrue d.tells → EmptyBy (needs_none (asked_task r.words a)) (reopened (d.files r.found)) r.why)
-      → (reads_shelf (asked_task r.words a) ≡ false → r.shelf_left ≡ r.shelf_found) → AnswersCommand r a tree mid
+      → (reads_shelf (asked_task r.words a) ≡ false → at.shelf_left ≡ at.shelf) → AnswersCommand r at a tree
   does_change changing went empty shelf = record {
     plain = λ _f _k other _t told. clash changing other;
     files = λ is. absurd (files_unchanging a is changing);
     text = λ text said. absurd (change_untold a text changing said);
     keyed = λ is told. absurd (keyed_unchanging a is changing);
-    changes = λ is told reads. change_of (went told reads);
+    changes = λ is told reads. went told reads;
     empty = λ is told. empty told;
     looks = λ _k other. clash changing other;
     shelf_unread = λ _f reads. shelf reads;
   }
 
-  pub does_text : {text : List ℕ} → text_of a.mode ≡ Some text → AnswersText r text mid → OnlyReadsPackages d r.found r.left → AnswersCommand r a tree mid
+  pub does_text : {text : List ℕ} → text_of a.mode ≡ Some text → AnswersText r at text → OnlyReadsPackages d r.found r.left → AnswersCommand r at a tree
   does_text {text = text} said went looks = record {
     plain = λ _f _k _c none told. none_said none said;
     files = λ is. absurd (files_untold a text is said);
     text = λ other is. let both : Some text ≡ Some other = sym said ∙ is in
-        subst (λ (t : List ℕ). AnswersText r t mid) (let same : text ≡ other = cc in same) went;
+        subst (λ (t : List ℕ). AnswersText r at t) (let same : text ≡ other = cc in same) went;
     keyed = λ is told. absurd (keyed_untold a text is said);
     changes = λ is told reads. absurd (change_untold a text is said);
     empty = λ is told. absurd (change_untold a text is said);
@@ -120,11 +98,11 @@ module _ {D S : Type 0} {d : disk.Ghosts D} {s : shelf.Ghosts S} {r : Run d s} {
 
   -- a command that was read is the one that the words ask for
   pub answered : (ask r.words ≡ Ok a) × (asks_format r.words ≡ Some (Ok tree)) → (is_changing a ≡ false → r.changes ≡ 0)
-      → (is_done r.why ≡ false → r.changes ≡ 0) → (IsTrue s.tells → s.paths r.shelf_left ≡ s.paths r.shelf_found) → d.follows r.found r.left
-      → AnswersCommand r a tree mid → Answers r mid
+      → (is_done r.why ≡ false → r.changes ≡ 0) → (IsTrue s.tells → s.paths at.shelf_left ≡ s.paths at.shelf) → d.follows r.found r.left
+      → AnswersCommand r at a tree → Answers r at
   unfolding asks_change
   answered read still counted paths goes_on does = record {
-    asked = λ b other asked. same_asked (λ x t. AnswersCommand r x t mid) r.words (asked_is r.words read) asked does;
+    asked = λ b other asked. same_asked (λ x t. AnswersCommand r at x t) r.words (asked_is r.words read) asked does;
     unasked = λ none. asked_some r.words read none;
     idle = λ no. still (sym (ap changes_in read.0) ∙ no);
     counted = counted;
@@ -173,8 +151,8 @@ module _ {w : Why} (ends : (w ≡ why.Done) ⊎ (w ≡ why.OutFault)) where
 -- a command for which memory is wanting does nothing, whatever is asked
 module _ {D S : Type 0} {d : disk.Ghosts D} {s : shelf.Ghosts S} (words : List (List ℕ)) (now : ℕ) (it : D) (at : S) (ot et : Bool) (o e : List ℕ)
     (stays : (x : D) → d.follows x x) where
-  pub does_nothing : (a : AskParts) (tree : Tree) → AnswersCommand (ran d s words now why.NoMemory 0 (it, at) (outputs ot o et e) (it, at)) a tree
-      (outputs ot o et e)
+  pub does_nothing : (a : AskParts) (tree : Tree) → AnswersCommand (ran d words why.NoMemory 0 (it, it) (outputs ot o et e, outputs ot o et e))
+      (setting_at s now (at, at)) a tree
   does_nothing a tree = record {
     plain = λ _f _k _c _t told. record {
       went = not_begun tree words a (d.files it) ot et o e (d.bytes_read it Pkg);
@@ -188,9 +166,9 @@ module _ {D S : Type 0} {d : disk.Ghosts D} {s : shelf.Ghosts S} (words : List (
       went = no_step (through_none {ot = ot} {et = et} o e);
       unread = (refl, refl);
     };
-    keyed = λ is told. keyed_of (unbegun d tree words a ot et o e it);
-    changes = λ is told reads. change_of (unmade_one d (asked_task words a) (task_course (s.paths at) now (asked_task words a)) it it refl
-        (same_kept (d.files it)) (idle_run d it) (outputs ot o et e) why.NoMemory tt);
+    keyed = λ is told. unbegun d tree words a ot et o e it;
+    changes = λ is told reads. unmade_one d words (asked_task words a) (asked_course (s.paths at) now words a) it it refl
+        (same_kept (d.files it)) (idle_run d it) (outputs ot o et e) why.NoMemory tt;
     empty = λ is told. memory_empty (needs_none (asked_task words a)) (reopened (d.files it));
     looks = λ _k _c. leaves_none d stays;
     shelf_unread = λ _f _r. refl;

@@ -3,11 +3,11 @@ use Rattle.std.proofs.Common.{◌≡◌, ℕ, ◌+◌, ◌≤◌, Bool, not, tru
 use Rattle.std.specs.Prelude.{IsTrue}
 use Rattle.rpm_outside.specs.declared.disk.Disk as disk
 use Rattle.rpm_outside.specs.Frame.{CrashLeaves}
-use Rattle.rpm_tool.proofs.Vocabulary.{AnswersByKey, AreLawful, AreLawfulDatabases, AreDurable, asked_reaches, AskParts, BadIs, Bearer, blocks_cost, Closed}
+use Rattle.rpm_tool.proofs.Vocabulary.{AnswersKeyed, AreLawful, AreLawfulDatabases, AreDurable, asked_reaches, AskParts, BadIs, Bearer, blocks_cost, Closed}
 use Rattle.rpm_tool.proofs.Vocabulary.{Damage, Database, request_of, StoreAnswerBy, KeyedProgress, RequestProgress, Files, FullByUnits, IndexFullIs, has_index, HasUsableIndex, images, is_blank_database}
 use Rattle.rpm_tool.proofs.Vocabulary.{is_done, is_foreign, is_indexed, is_of_opening, is_query, IsAtRest, IsLawful, IsLawfulStill, IsOpened, IsSound}
 use Rattle.rpm_tool.proofs.Vocabulary.{IsUsable, keyed_cost, keyed_to, KeepsLog, KeepsPackages, leaves_then, leaves_weaker, log_state, LogState, must_rebuild}
-use Rattle.rpm_tool.proofs.Vocabulary.{OnUsable, StoreAnswer, Outputs, outputs, pkg_read, reach_sum, reached_by, RecoverKeeps, RecoverSays, Remade, reopened}
+use Rattle.rpm_tool.proofs.Vocabulary.{OnUsable, StoreAnswer, Outputs, outputs, pkg_read, ran, reach_sum, reached_by, RecoverKeeps, RecoverSays, Remade, reopened}
 use Rattle.rpm_tool.proofs.Vocabulary.{ReopensAsOneOf, store_of, IsLawfulAndSame, started, Store, store, Through, Tree, Units, units_needed, without_log, Why}
 use Rattle.rpm_db.specs.Openings.{FullOpenIs, OpeningReads, OpensAs, WritesNothing}
 use Rattle.rpm_db.specs.Runs.{ImageFrom}
@@ -181,7 +181,7 @@ module _ {D : Type 0} (d : disk.Ghosts D) {old mid : D} (first : CrashLeaves d o
       → (AreLawful (images d mid) → CrashLeaves d mid new (IsLawfulStill (images d mid)))
       → (must_rebuild (d.files mid).idx (store (d.files mid).pkg) ≡ false → d.files new ≡ d.files mid)
       → DidIndexed tree words a (d.files mid) (d.files new) given before after (pkg_read d mid) (pkg_read d new)
-      → AnswersByKey d tree words a given before after old new
+      → AnswersKeyed (ran d words given 0 (old, new) (before, after)) a tree
   recovered tree words a new given before after same made any stops stays here =
       let r = reopened (d.files old) in
       let now = pkg_read d new in
@@ -195,9 +195,9 @@ module _ {D : Type 0} (d : disk.Ghosts D) {old mid : D} (first : CrashLeaves d o
         went = went;
         reads = λ query group. did.reads query group.usable;
         kind = did.kind;
-        full = did.full;
+        index_full = did.full;
         complete = completes tree words a (d.files old) given before after (pkg_read d old) now did.kind went did.full;
-        bad = did.bad;
+        bad_index = did.bad;
         index = λ group done. record { closed = shut (d.files new) made.log made.pkg; indexed = did.index group.usable done };
         packages = same_packages (d.files new) made.log made.pkg;
         kept = keeps_log (d.files new) made.log made.pkg;
@@ -216,7 +216,7 @@ still_here : (images : Files → Type 0) → AreLawfulDatabases images → (imag
 still_here images lawful image is = record { from = image; was = is; pkg = refl; lawful = lawful image is }
 
 pub unbegun : {D : Type 0} (d : disk.Ghosts D) (tree : Tree) (words : List (List ℕ)) (a : AskParts) (ot et : Bool) (o e : List ℕ) (it : D)
-    → AnswersByKey d tree words a why.NoMemory (outputs ot o et e) (outputs ot o et e) it it
+    → AnswersKeyed (ran d words why.NoMemory 0 (it, it) (outputs ot o et e, outputs ot o et e)) a tree
 unbegun d tree words a ot et o e it = record {
   went =
       (let r = reopened (d.files it) in
@@ -226,8 +226,8 @@ unbegun d tree words a ot et o e it = record {
       (log_state (d.files it).log));
   reads = λ query group. omega arith;
   kind = refl;
-  full = tt;
-  bad = tt;
+  index_full = tt;
+  bad_index = tt;
   complete = λ group room. refl;
   index = λ group done. absurd cc;
   packages = refl;

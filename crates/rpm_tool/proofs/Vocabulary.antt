@@ -4,10 +4,9 @@ pub use Rattle.rpm_effects.specs.Steps.{Bearer, Course}
 pub use Rattle.rpm_check.specs.Edges.{graph_of}
 pub use Rattle.rpm_commit.specs.Changing.{EmptyBy}
 pub use Rattle.rpm_effects.specs.Endings.{unless_starved, why_of_recover}
-pub use Rattle.rpm_commit.specs.Lawful.{AreLawfulDatabases, KeepsPackages, IsLawfulAndSame}
-pub use Rattle.rpm_commit.specs.Limits.{OneChange}
+pub use Rattle.rpm_commit.specs.Lawful.{AreLawfulDatabases, HasUsableIndex, KeepsPackages, IsLawfulAndSame}
 pub use Rattle.rpm_commit.specs.Tasks.{asked_course, asked_task, needs_none, reads_shelf, task_course}
-pub use Rattle.rpm_commit.specs.OneChange.{Streams}
+pub use Rattle.rpm_commit.specs.Stages.{Streams}
 pub use Rattle.rpm_db.specs.Database.{Database, is_blank_database, is_indexed, without_index}
 pub use Rattle.rpm_db.specs.Database.{store_of}
 pub use Rattle.rpm_db.specs.Lawful.{AreLawful, IsLawful, IsLawfulStill, Remade}
@@ -63,9 +62,9 @@ unfoldable pub use Rattle.rpm_select.specs.Selections.{picks}
 pub use Rattle.rpm_select.specs.declared.selection.Selection.{Selection}
 pub use Rattle.rpm_select.specs.laws.Unindexed.{no_index_rows}
 pub use Rattle.rpm_tool.specs.Requests.{asked_reaches, blocks_cost, StoreAnswerBy, PlainProgress, RequestProgress, LogAnswer, StoreAnswer, PlainAnswer, query_cost, read_to}
-pub use Rattle.rpm_tool.specs.Keyed.{AnswersByKey, BadIs, CauseIs, KeyedProgress, FullByUnits, IndexFullIs, has_index, HasUsableIndex, HasRoom, IsAtRest, IsUsable}
+pub use Rattle.rpm_tool.specs.Keyed.{BadIs, CauseIs, KeyedProgress, FullByUnits, IndexFullIs, has_index, HasRoom, IsAtRest, IsUsable}
 pub use Rattle.rpm_tool.specs.Keyed.{IsUsableDatabase, keyed_cost, keyed_to, KeyedAnswer, OnUsable, UnlessFull}
-pub use Rattle.rpm_tool.specs.Theorem.{Answers, AnswersChange, AnswersKeyed, AnswersOfFiles, AnswersPlain, AnswersText, AnswersCommand, ran, Run}
+pub use Rattle.rpm_tool.specs.Theorem.{Answers, AnswersChange, AnswersKeyed, AnswersOfFiles, AnswersPlain, AnswersText, AnswersCommand, ran, Run, setting_at, Setting}
 pub use Rattle.rpm_version.specs.Capability.{capability, CapabilityParts}
 pub use Rattle.rpm_version.specs.declared.capability.BadCapability.{BadCapability}
 pub use Rattle.rpm_words.specs.Ask.{AskParts, IsFit}

@@ -3,9 +3,7 @@
 use Rattle.std.specs.Prelude.{◌≡◌, ◌⊎◌, ℕ, ◌+◌, ◌^◌, ◌<◌, ◌≤◌, List, [], map, Bool, true, false, not, ◌==◌, ◌||◌, Ok}
 use Rattle.std.specs.Prelude.{IsTrue}
 use Rattle.std.proofs.Common.{inl, inr, refl}
-use Rattle.rpm_outside.specs.Frame.{CrashLeaves, images}
 use Rattle.rpm_outside.specs.declared.disk.Disk as disk
-use Rattle.rpm_outside.specs.declared.disk.File.TheVariants.{Pkg}
 use Rattle.rpm_outside.specs.Files.{Units, Files}
 use Rattle.rpm_outside.specs.Logs.{Closed, log_state, reopened}
 use Rattle.rpm_group.specs.Loads.{IsSound}
@@ -23,7 +21,7 @@ use Rattle.rpm_effects.specs.declared.answer.Why.{Why}
 use Rattle.rpm_effects.specs.declared.answer.Why.TheVariants as why
 use Rattle.rpm_print.specs.declared.reading.Request.{Request}
 use Rattle.rpm_print.specs.declared.reading.Request.TheVariants as request
-use Rattle.rpm_print.specs.Asked.{always_keyed, is_query, request_of}
+use Rattle.rpm_print.specs.Asked.{always_keyed, request_of}
 use Rattle.rpm_effects.specs.Steps.{Bearer}
 use Rattle.rpm_report.specs.Requirements.{IsOfSome}
 use Rattle.rpm_select.specs.Frame.{HasKeptRows as HasIndexRows}
@@ -32,24 +30,14 @@ use Rattle.rpm_print.specs.Frame.{OnlyReadsIndexed, pkg_read}
 use Rattle.rpm_print.specs.Reads.{reach_sum, reached_by}
 use Rattle.rpm_query.specs.Reach.{IsOfChains}
 use Rattle.rpm_effects.specs.Progress.{Outputs, Through}
-use Rattle.rpm_effects.specs.Classes.{is_done, is_done_or_outside, is_foreign, is_refusal}
+use Rattle.rpm_effects.specs.Classes.{is_refusal}
 use Rattle.rpm_tool.specs.Requests.{StoreAnswerBy, LogAnswer, RequestProgress, reaches_of, asked_reaches, blocks_cost}
-pub use Rattle.rpm_commit.specs.Lawful.{AreLawfulDatabases, IsLawfulDatabase, KeepsPackages, IsLawfulAndSame}
+pub use Rattle.rpm_commit.specs.Lawful.{AreLawfulDatabases, HasClosedIndex, HasUsableIndex, IsLawfulDatabase}
+pub use Rattle.rpm_commit.specs.Lawful.{IsLawfulAndSame, KeepsPackages}
 pub use Rattle.rpm_group.specs.Crashes.{KeepsLog}
 pub use Rattle.rpm_words.specs.declared.switch.Chosen.{Chosen}
 
 -- ---- an index that is ready
-
--- the index is current, and holds the rows of the packages; a database that is blank needs none
-pub record HasUsableIndex (pkg idx : Units) : Type 0 where
-  pub value : Store
-  pub undamaged : store pkg ≡ Ok value
-  pub index : (value.pages ≡ 0) ⊎ ((is_current_at value.generation idx ≡ true) × HasRows (packages pkg value) idx)
-
--- a database has its index, and nothing is left of a change
-pub record HasClosedIndex (files : Files) : Type 0 where
-  pub closed : log_state files.log ≡ Closed
-  pub indexed : HasUsableIndex files.pkg files.idx
 
 -- nothing is left of a change, and no index must be made, whatever the one that is there holds
 pub record IsAtRest (files : Files) : Type 0 where
@@ -166,21 +154,3 @@ KeyedAnswer tree words a files given old new before now =
     let r = reopened files in
     LogAnswer (OnUsable (IsUsable r.pkg r.idx) (KeyedProgress tree words a r before now)) (store r.pkg)
     (log_state files.log) given old new
-
--- all that is said of it on a disk that tells its contents
-pub record AnswersByKey {D : Type 0} (d : disk.Ghosts D) (tree : Tree) (words : List (List ℕ)) (a : AskParts)
-    (given : Why) (before now : Outputs)
-    (old new : D) : Type 0 where
-  pub went : KeyedAnswer tree words a (d.files old) given before now (d.bytes_read old Pkg) (d.bytes_read new Pkg)
-  pub reads : is_query a.mode ≡ true → IsUsableDatabase (d.files old)
-      → d.bytes_read new Pkg ≤ d.bytes_read old Pkg + keyed_cost (reopened (d.files old)) words a
-  pub kind : is_foreign given ≡ false
-  pub full : IndexFullIs (reopened (d.files old)) given
-  pub bad : BadIs words a (reopened (d.files old)) given
-  pub complete : IsUsableDatabase (d.files old) → HasRoom (reopened (d.files old)) → is_done_or_outside given ≡ true
-  pub index : IsUsableDatabase (d.files old) → is_done given ≡ true → HasClosedIndex (d.files new)
-  pub packages : (reopened (d.files new)).pkg ≡ (reopened (d.files old)).pkg
-  pub kept : KeepsLog (d.files old) (d.files new)
-  pub still : IsAtRest (d.files old) → d.files new ≡ d.files old
-  pub leaves : CrashLeaves d old new (KeepsPackages (images d old))
-  pub crashes : AreLawfulDatabases (images d old) → CrashLeaves d old new (IsLawfulAndSame (images d old))

@@ -3,7 +3,7 @@ pub use Rattle.rpm_outside.specs.Logs.{reopened}
 pub use Rattle.rpm_outside.specs.declared.disk.File.TheVariants.{Pkg}
 pub use Rattle.rpm_pkgdb.specs.Store.{store}
 pub use Rattle.rpm_effects.specs.Endings.{status_of}
-pub use Rattle.rpm_commit.specs.OneChange.{Streams}
+pub use Rattle.rpm_commit.specs.Stages.{Streams}
 pub use Rattle.rpm_effects.specs.Answers.{ClosingEnding}
 pub use Rattle.rpm_print.specs.Asked.{always_keyed, asks, request_of}
 pub use Rattle.rpm_effects.specs.Classes.{IsOfPrint, is_foreign, is_of_opening}
@@ -15,5 +15,5 @@ pub use Rattle.rpm_effects.specs.Hands.{EndHands}
 pub use Rattle.rpm_effects.specs.Shown.{outs, shown_outputs}
 pub use Rattle.rpm_report.specs.Requirements.{why_of_report}
 pub use Rattle.rpm_tool.specs.Requests.{PlainProgress, StoreAnswer, PlainAnswer, query_cost}
-pub use Rattle.rpm_tool.specs.Keyed.{AnswersByKey, OpenedAnswer}
-pub use Rattle.rpm_tool.specs.Theorem.{Answers, AnswersWords, Causes, Laws, ran}
+pub use Rattle.rpm_tool.specs.Keyed.{OpenedAnswer}
+pub use Rattle.rpm_tool.specs.Theorem.{Answers, AnswersKeyed, AnswersWords, Causes, Laws, ran, setting_at}

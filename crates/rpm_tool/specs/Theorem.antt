@@ -19,52 +19,34 @@ use Rattle.rpm_words.specs.Ask.{AskParts, ask}
 use Rattle.rpm_qfparse.specs.declared.fault.FormatFault.{FormatFault}
 use Rattle.rpm_qfparse.specs.declared.fault.FormatKind.TheVariants as wrong
 use Rattle.rpm_effects.specs.declared.answer.Why.TheVariants as why
+use Rattle.rpm_effects.specs.Classes.{is_done, is_done_or_outside, is_foreign}
 use Rattle.rpm_print.specs.Answers.{ComesWhere}
 use Rattle.rpm_print.specs.Asked.{is_query, of_files, by_key, is_changing, asks_change, asks_format, asks}
-use Rattle.rpm_commit.specs.Changing.{ChangeProgressOn, ChangesWith, EmptyBy}
-use Rattle.rpm_effects.specs.Classes.{is_done, is_done_or_outside, is_foreign}
-use Rattle.rpm_effects.specs.Steps.{Course}
-use Rattle.rpm_print.specs.Texts.{text_course, text_of}
-use Rattle.rpm_tool.specs.Requests.{Anywhere, CommandProgress, Outputs, Package, PlainAnswer, query_cost, reopened}
-use Rattle.rpm_tool.specs.Requests.{State}
-use Rattle.rpm_tool.specs.Requests.{steps_above, Tree, Why}
 use Rattle.rpm_outside.specs.Frame.{images, CrashLeaves}
 use Rattle.rpm_print.specs.Frame.{pkg_read, OnlyReadsPackages}
-use Rattle.rpm_tool.specs.Keyed.{AreLawfulDatabases, Chosen, IsLawfulDatabase, IsUsableDatabase, KeepsLog}
-use Rattle.rpm_tool.specs.Keyed.{KeepsPackages, IsLawfulAndSame}
-use Rattle.rpm_tool.specs.Keyed.{IsAtRest, HasClosedIndex, KeyedAnswer, IndexFullIs, BadIs, HasRoom, keyed_cost}
-use Rattle.rpm_commit.specs.Limits.{LimitsBy, LogBy, FaultIs}
+use Rattle.rpm_print.specs.Texts.{text_course, text_of}
 use Rattle.rpm_query.specs.PackageFiles.{with_after, query_files}
 use Rattle.rpm_query.specs.Queries.{picked_packages, argument_part, query, query_of, AreOfEach, AreQuestions}
-use Rattle.rpm_commit.specs.Tasks.{asked_task, asked_course, reads_shelf, is_anew, changes_index, needs_none}
+use Rattle.rpm_commit.specs.Changing.{EmptyBy}
+use Rattle.rpm_commit.specs.Tasks.{asked_task, asked_course, reads_shelf, needs_none}
+use Rattle.rpm_tool.specs.Requests.{Anywhere, CommandProgress, Package, PlainAnswer, query_cost, reopened}
+use Rattle.rpm_tool.specs.Requests.{steps_above, Tree, Why}
+use Rattle.rpm_tool.specs.Keyed.{AreLawfulDatabases, Chosen, IsUsableDatabase, KeepsLog}
+use Rattle.rpm_tool.specs.Keyed.{KeepsPackages, IsLawfulAndSame}
+use Rattle.rpm_tool.specs.Keyed.{IsAtRest, HasClosedIndex, KeyedAnswer, IndexFullIs, BadIs, HasRoom, keyed_cost}
+-- One run: its words, how it ended, what it found and left of the disk, what out and err had taken before and after.
+pub use Rattle.rpm_commit.specs.Run.{Run, ran}
+pub use Rattle.rpm_commit.specs.Answers.{AnswersChange}
 
--- One run: its words and its moment, how it ended, what it found and left, what out and err had taken before.
-pub record Run {D S : Type 0} (d : disk.Ghosts D) (s : shelf.Ghosts S) : Type 0 where
-  pub words : List (List ℕ)
+-- What a run has beside the disk: its moment, and the shelf as it was found and as it was left.
+pub record Setting {S : Type 0} (s : shelf.Ghosts S) : Type 0 where
   pub moment : ℕ
-  pub why : Why
-  pub changes : ℕ
-  pub found : D
-  pub left : D
-  pub shelf_found : S
+  pub shelf : S
   pub shelf_left : S
-  pub before : Outputs
 
--- what one call of run did, as one record
-abbrev pub ran : {D S : Type 0} (d : disk.Ghosts D) (s : shelf.Ghosts S) → List (List ℕ) → ℕ → Why → ℕ → D × S → Outputs
-    → D × S → Run d s
-ran d s words now why changes old before new =
-    record {
-      words = words;
-      moment = now;
-      why = why;
-      changes = changes;
-      found = old.0;
-      left = new.0;
-      shelf_found = old.1;
-      shelf_left = new.1;
-      before = before;
-    }
+-- a run at this moment, of a shelf as it was found and as it was left
+abbrev pub setting_at : {S : Type 0} (s : shelf.Ghosts S) → ℕ → S × S → Setting s
+setting_at s now shelves = record { moment = now; shelf = shelves.0; shelf_left = shelves.1 }
 
 -- 1. WORDS that break a rule, and a format that has a fault, are answered so, exactly there, with the first.
 pub record AnswersWords (words : List (List ℕ)) (given : Why) : Type 0 where
@@ -73,77 +55,73 @@ pub record AnswersWords (words : List (List ℕ)) (given : Why) : Type 0 where
   pub bad_format : (f : FormatFault) → ComesWhere (why.BadFormat f) given (asks_format words ≡ Some (Err f))
   pub bad_format_kind : (f : FormatFault) → given ≡ why.BadFormat f → f.kind ≢ wrong.NoMemory
 
-module _ {D S : Type 0} {d : disk.Ghosts D} {s : shelf.Ghosts S} where
-  -- 2. PLAIN QUESTIONS ask no index. `mid` is what out and err took by the end, before the closing line.
-  pub record AnswersPlain (r : Run d s) (a : AskParts) (tree : Tree) (mid : Outputs) : Type 0 where
-    pub went : PlainAnswer tree r.words a (d.files r.found) r.why r.before mid (pkg_read d r.found) (pkg_read d r.left)
-    pub reads : pkg_read d r.left ≤ pkg_read d r.found + query_cost r.words a (reopened (d.files r.found)).pkg
+-- 2. PLAIN QUESTIONS ask no index. `after` is what out and err took by the end, before the closing line.
+pub record AnswersPlain {D : Type 0} {d : disk.Ghosts D} (r : Run d) (a : AskParts) (tree : Tree) : Type 0 where
+  pub went : PlainAnswer tree r.words a (d.files r.found) r.why r.before r.after (pkg_read d r.found)
+      (pkg_read d r.left)
+  pub reads : pkg_read d r.left ≤ pkg_read d r.found + query_cost r.words a (reopened (d.files r.found)).pkg
 
+module _ {D S : Type 0} {d : disk.Ghosts D} {s : shelf.Ghosts S} where
   -- 3. PACKAGE FILES are queried with no call on the disk.
-  pub record AnswersOfFiles (r : Run d s) (a : AskParts) (tree : Tree) (mid : Outputs) : Type 0 where
-    pub went : IsTrue s.tells → CommandProgress (query_files tree (s.paths r.shelf_found) r.words a) r.why r.before mid
-        Anywhere
+  pub record AnswersOfFiles (r : Run d) (at : Setting s) (a : AskParts) (tree : Tree) : Type 0 where
+    pub went : IsTrue s.tells
+        → CommandProgress (query_files tree (s.paths at.shelf) r.words a) r.why r.before r.after Anywhere
     pub disk_unread : r.left ≡ r.found
 
   -- 4. TEXTS on the program itself, its help and its version, are printed with no call on disk and shelf.
-  pub record AnswersText (r : Run d s) (text : List ℕ) (mid : Outputs) : Type 0 where
-    pub went : CommandProgress (text_course text) r.why r.before mid Anywhere
-    pub unread : (r.left ≡ r.found) × (r.shelf_left ≡ r.shelf_found)
+  pub record AnswersText (r : Run d) (at : Setting s) (text : List ℕ) : Type 0 where
+    pub went : CommandProgress (text_course text) r.why r.before r.after Anywhere
+    pub unread : (r.left ≡ r.found) × (at.shelf_left ≡ at.shelf)
 
-  -- 5. QUESTIONS BY KEY, and reports on requirements, finish what a crash left, and make a stale index anew. Whatever
-  -- they answer, a malformed log stays with the files beside it, and no other becomes malformed (`kept`). Where there
-  -- is nothing to finish or to make, no file changes (`still`). A crash leaves the packages, and the log in the same
-  -- way, whatever the index holds (`leaves`).
-  pub record AnswersKeyed (r : Run d s) (a : AskParts) (tree : Tree) (mid : Outputs) : Type 0 where
-    pub went : KeyedAnswer tree r.words a (d.files r.found) r.why r.before mid (pkg_read d r.found) (pkg_read d r.left)
-    pub reads : is_query a.mode ≡ true → IsUsableDatabase (d.files r.found)
-        → pkg_read d r.left ≤ pkg_read d r.found + keyed_cost (reopened (d.files r.found)) r.words a
-    pub kind : is_foreign r.why ≡ false
-    pub full : IndexFullIs (reopened (d.files r.found)) r.why
-    pub bad : BadIs r.words a (reopened (d.files r.found)) r.why
-    pub complete : IsUsableDatabase (d.files r.found) → HasRoom (reopened (d.files r.found))
-        → is_done_or_outside r.why ≡ true
-    pub index : IsUsableDatabase (d.files r.found) → is_done r.why ≡ true → HasClosedIndex (d.files r.left)
-    pub packages : (reopened (d.files r.left)).pkg ≡ (reopened (d.files r.found)).pkg
-    pub kept : KeepsLog (d.files r.found) (d.files r.left)
-    pub still : IsAtRest (d.files r.found) → d.files r.left ≡ d.files r.found
-    pub leaves : CrashLeaves d r.found r.left (KeepsPackages (images d r.found))
-    pub crashes : AreLawfulDatabases (images d r.found)
-        → CrashLeaves d r.found r.left (IsLawfulAndSame (images d r.found))
+-- 5. QUESTIONS BY KEY, and reports on requirements, finish what a crash left, and make a stale index anew. Whatever
+-- they answer, a malformed log stays with the files beside it, and no other becomes malformed (`kept`). Where there
+-- is nothing to finish or to make, no file changes (`still`). A crash leaves the packages, and the log in the same
+-- way, whatever the index holds (`leaves`).
+pub record AnswersKeyed {D : Type 0} {d : disk.Ghosts D} (r : Run d) (a : AskParts) (tree : Tree) : Type 0 where
+  pub went : KeyedAnswer tree r.words a (d.files r.found) r.why r.before r.after (pkg_read d r.found)
+      (pkg_read d r.left)
+  pub reads : is_query a.mode ≡ true → IsUsableDatabase (d.files r.found)
+      → pkg_read d r.left ≤ pkg_read d r.found + keyed_cost (reopened (d.files r.found)) r.words a
+  pub kind : is_foreign r.why ≡ false
+  pub index_full : IndexFullIs (reopened (d.files r.found)) r.why
+  pub bad_index : BadIs r.words a (reopened (d.files r.found)) r.why
+  pub complete : IsUsableDatabase (d.files r.found) → HasRoom (reopened (d.files r.found))
+      → is_done_or_outside r.why ≡ true
+  pub index : IsUsableDatabase (d.files r.found) → is_done r.why ≡ true → HasClosedIndex (d.files r.left)
+  pub packages : (reopened (d.files r.left)).pkg ≡ (reopened (d.files r.found)).pkg
+  pub kept : KeepsLog (d.files r.found) (d.files r.left)
+  pub still : IsAtRest (d.files r.found) → d.files r.left ≡ d.files r.found
+  pub leaves : CrashLeaves d r.found r.left (KeepsPackages (images d r.found))
+  pub crashes : AreLawfulDatabases (images d r.found)
+      → CrashLeaves d r.found r.left (IsLawfulAndSame (images d r.found))
 
-  -- 6. CHANGES of a command are one transaction: all made and counted, or none; each ending leaves `ChangesWith`.
-  pub record AnswersChange (r : Run d s) (a : AskParts) (course : State → Course) (mid : Outputs) : Type 0 where
-    pub did : ChangeProgressOn course (d.files r.found) r.why r.before mid
-    pub changed : ChangesWith d (is_anew (asked_task r.words a)) (changes_index (asked_task r.words a)) course
-        r.why r.changes r.found r.left
-    pub limits : LimitsBy (is_anew (asked_task r.words a)) (IsLawfulDatabase (d.files r.found)) course
-        (reopened (d.files r.found)) r.why
-    pub fault : FaultIs d (is_anew (asked_task r.words a)) course r.why r.found r.left r.before mid
-    pub log : LogBy (is_anew (asked_task r.words a)) (IsLawfulDatabase (d.files r.found)) course
-        (reopened (d.files r.found)) r.why
+-- 6. CHANGES of a command are one transaction: all made and counted, or none. `AnswersChange`, in Answers.antt of
+-- `rpm_commit`, has what they print (`did`) and leave, also in a crash (`changed`: `ChangesWith`), which limit is
+-- answered (`limits`, `log`), and when the disk failed (`fault`).
 
+module _ {D S : Type 0} {d : disk.Ghosts D} {s : shelf.Ghosts S} where
   -- What is done for a command that was read, by its kind.
-  pub record AnswersCommand (r : Run d s) (a : AskParts) (tree : Tree) (mid : Outputs) : Type 0 where
+  pub record AnswersCommand (r : Run d) (at : Setting s) (a : AskParts) (tree : Tree) : Type 0 where
     pub plain : of_files a ≡ false → by_key a ≡ false → is_changing a ≡ false → text_of a.mode ≡ None
-        → IsTrue d.tells → AnswersPlain r a tree mid
-    pub files : of_files a ≡ true → AnswersOfFiles r a tree mid
-    pub text : (text : List ℕ) → text_of a.mode ≡ Some text → AnswersText r text mid
-    pub keyed : by_key a ≡ true → IsTrue d.tells → AnswersKeyed r a tree mid
+        → IsTrue d.tells → AnswersPlain r a tree
+    pub files : of_files a ≡ true → AnswersOfFiles r at a tree
+    pub text : (text : List ℕ) → text_of a.mode ≡ Some text → AnswersText r at text
+    pub keyed : by_key a ≡ true → IsTrue d.tells → AnswersKeyed r a tree
     pub changes : is_changing a ≡ true → IsTrue d.tells
         → (reads_shelf (asked_task r.words a) ≡ true → IsTrue s.tells)
-        → AnswersChange r a (asked_course (s.paths r.shelf_found) r.moment r.words a) mid
+        → AnswersChange r (asked_task r.words a) (asked_course (s.paths at.shelf) at.moment r.words a)
     pub empty : is_changing a ≡ true → IsTrue d.tells
         → EmptyBy (needs_none (asked_task r.words a)) (reopened (d.files r.found)) r.why
     pub looks : by_key a ≡ false → is_changing a ≡ false → OnlyReadsPackages d r.found r.left
-    pub shelf_unread : of_files a ≡ false → reads_shelf (asked_task r.words a) ≡ false → r.shelf_left ≡ r.shelf_found
+    pub shelf_unread : of_files a ≡ false → reads_shelf (asked_task r.words a) ≡ false → at.shelf_left ≡ at.shelf
 
   -- What `run` answers for all words.
-  pub record Answers (r : Run d s) (mid : Outputs) : Type 0 where
-    pub asked : (a : AskParts) (tree : Tree) → asks r.words ≡ Some (a, tree) → AnswersCommand r a tree mid
-    pub unasked : asks r.words ≡ None → mid ≡ r.before
+  pub record Answers (r : Run d) (at : Setting s) : Type 0 where
+    pub asked : (a : AskParts) (tree : Tree) → asks r.words ≡ Some (a, tree) → AnswersCommand r at a tree
+    pub unasked : asks r.words ≡ None → r.after ≡ r.before
     pub idle : asks_change r.words ≡ false → r.changes ≡ 0
     pub counted : is_done r.why ≡ false → r.changes ≡ 0
-    pub paths : IsTrue s.tells → s.paths r.shelf_left ≡ s.paths r.shelf_found
+    pub paths : IsTrue s.tells → s.paths at.shelf_left ≡ s.paths at.shelf
     pub goes_on : d.follows r.found r.left
 
 -- 7. CAUSES. A fault is answered only where its object counted one.

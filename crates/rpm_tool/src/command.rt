@@ -1,7 +1,7 @@
 //! The top call: a command line does what its command's steps say.
 
 ghost use Rattle.std.specs.Prelude.{◌≡◌, true, false, None};
-ghost use Rattle.rpm_tool.specs.Prelude.{Answers, AnswersWords, asks, Causes, closing, DiskFault, ClosingEnding, Laws, outs, ran, shown_outputs, status_of, Streams};
+ghost use Rattle.rpm_tool.specs.Prelude.{Answers, AnswersWords, asks, Causes, closing, DiskFault, ClosingEnding, Laws, outs, ran, setting_at, shown_outputs, status_of, Streams};
 
 use crate::keyed::answer_keyed;
 use crate::loaded::answer_loaded;
@@ -25,8 +25,9 @@ fn command<D: Disk, S: Shelf, O: Sink + Drop, E: Sink + Drop>(
 ) -> (CommandEnding, D)
     ensures words { AnswersWords words.now result.0.why }
     ensures unread { asks words.now ≡ None → (result.1 ≡ disk) × (shelf.new ≡ shelf.old) × (out.new ≡ out.old) × (err.new ≡ err.old) }
-    ensures answers { Answers (ran D.Disk S.Shelf words.now now result.0.why result.0.changes (disk, shelf.old)
-        (shown_outputs O.Sink E.Sink out.old err.old) (result.1, shelf.new)) (shown_outputs O.Sink E.Sink out.new err.new) }
+    ensures answers { Answers (ran D.Disk words.now result.0.why result.0.changes (disk, result.1)
+        (shown_outputs O.Sink E.Sink out.old err.old, shown_outputs O.Sink E.Sink out.new err.new))
+        (setting_at S.Shelf now (shelf.old, shelf.new)) }
     ensures disk { DiskFault D.Disk (result.0.why ≡ Why.DiskFault) disk result.1 }
     ensures streams { Streams S.Shelf O.Sink E.Sink true (λ why. result.0.why ≡ why) (shelf.old, out.old, err.old) (shelf.new, out.new, err.new) }
 {
@@ -121,9 +122,9 @@ pub fn run<D: Disk, S: Shelf, O: Sink, E: Sink>(
     ensures unread { asks words.now ≡ None → (result.1 ≡ disk) × (shelf.new ≡ shelf.old) × (out.new ≡ out.old) }
 
     // The theorem: the command of the words, and the line that closes it.
-    ensures answers { ClosingEnding (Answers (ran D.Disk S.Shelf words.now now result.0.why result.0.changes (disk, shelf.old)
-        (outs O.Sink E.Sink out.old err.old) (result.1, shelf.new))) (closing words.now result.0.why)
-        (outs O.Sink E.Sink out.new err.new) (E.faults err.old) (E.faults err.new) }
+    ensures answers { ClosingEnding (λ mid. Answers (ran D.Disk words.now result.0.why result.0.changes (disk, result.1)
+        (outs O.Sink E.Sink out.old err.old, mid)) (setting_at S.Shelf now (shelf.old, shelf.new)))
+        (closing words.now result.0.why) (outs O.Sink E.Sink out.new err.new) (E.faults err.old) (E.faults err.new) }
     ensures causes { Causes D.Disk S.Shelf O.Sink E.Sink result.0.why (disk, shelf.old, out.old, err.old) (result.1, shelf.new, out.new, err.new) }
     ensures laws { Laws words.now }
 {

@@ -2,7 +2,7 @@
 //! and change no package.
 
 ghost use Rattle.std.specs.Prelude.{◌≡◌, false, IsTrue};
-ghost use Rattle.rpm_tool.specs.Prelude.{AnswersByKey, request_of, DiskFault, EndHands, is_foreign, shown_outputs};
+ghost use Rattle.rpm_tool.specs.Prelude.{AnswersKeyed, ran, request_of, DiskFault, EndHands, is_foreign, shown_outputs};
 
 use crate::dispatch::answer_opened;
 use rpm_db::Db;
@@ -29,8 +29,8 @@ pub fn answer_keyed<D: Disk, O: Sink + Drop, E: Sink + Drop>(
     err: &mut Buffered<E>,
 ) -> (Why, D)
     requires request { request ≡ request_of ask.now.mode }
-    ensures keyed { IsTrue D.tells → AnswersByKey D.Disk format.now words.now ask.now result.0
-        (shown_outputs O.Sink E.Sink out.old err.old) (shown_outputs O.Sink E.Sink out.new err.new) disk result.1 }
+    ensures keyed { IsTrue D.tells → AnswersKeyed (ran D.Disk words.now result.0 0 (disk, result.1)
+        (shown_outputs O.Sink E.Sink out.old err.old, shown_outputs O.Sink E.Sink out.new err.new)) ask.now format.now }
     ensures goes_on { D.follows disk result.1 }
     ensures done { is_foreign result.0 ≡ false }
     ensures disk { DiskFault D.Disk (result.0 ≡ Why.DiskFault) disk result.1 }

@@ -32,6 +32,7 @@ use Rattle.rpm_change.specs.Limits.{LimitsTurn, is_limit}
 use Rattle.rpm_effects.specs.Lines.{Fails}
 use Rattle.rpm_effects.specs.Steps.{Bearer, Course, ToErr, course_of_failure, idle, joined_courses, apply_all}
 use Rattle.rpm_effects.specs.Shown.{EndedOnErr}
+use Rattle.rpm_change.specs.inner.IndexLaws.{at_index, by_index}
 use Rattle.rpm_change.specs.laws.Leaving.{none_by, after_by, then_by, halt_bad, halted_by, whole_halt}
 use Rattle.rpm_change.specs.laws.LimitLaws.{limits_none, limits_more, limits_stop, limits_counted}
 use Rattle.rpm_change.specs.laws.Single.{none_made, other_stop}
@@ -123,9 +124,9 @@ module _ {D : Type 0} (d : disk.Ghosts D) where
         ended = λ u.
             subst (λ (x : Course). F x (state_in d old before) (state_in d new after) r) (same u)
             (ends (state_in d old before) (state_in d new after) (w.ended (told u)));
-        limits = λ u i rows.
+        limits = λ u. by_index (λ i rows.
             subst (λ (x : Course). LimitsTurn i (state_in d old before) (store_of before)
-            (store_of after) from to x.changes r) (same u) (w.limits (told u) i rows);
+            (store_of after) from to x.changes r) (same u) (at_index (w.limits (told u)) i rows));
         whole = w.whole;
         bad = w.bad;
         given = λ u.
@@ -142,9 +143,8 @@ module _ {D : Type 0} (d : disk.Ghosts D) where
       → EndStateBy d C old new after (Err h) → ProgressBy d C A T G from to old new before after (Err h) E course
   stopped_went {old = old} {new = new} {before = before} {after = after} course h ends other whole left = record {
     ended = λ told. ends (state_in d old before) (state_in d new after);
-    limits =
-        λ told i rows. other_stop i (state_in d old before) (store_of before) (store_of after) course.changes h
-        (other i);
+    limits = λ told. by_index (λ i rows.
+        other_stop i (state_in d old before) (store_of before) (store_of after) course.changes h (other i));
     whole = λ told was. whole;
     bad = λ told. whole_bad (d.files new).idx (d.files old).idx h whole;
     given = λ told. tt;
@@ -160,7 +160,7 @@ module _ {D : Type 0} (d : disk.Ghosts D) where
         → ProgressBy d C A T (OwesAdded owed owed) from from at at db db (Ok no_tally) E idle
     none_went ends = record {
       ended = λ told. ends;
-      limits = λ told i rows. limits_none i (state_in d at db) (store_of db) no_tally;
+      limits = λ told. by_index (λ i rows. limits_none i (state_in d at db) (store_of db) no_tally);
       whole = λ told whole. whole;
       bad = λ told. tt;
       given = λ told. record { adds = sym (append-nil owed.adds) };
@@ -182,10 +182,10 @@ module _ {D : Type 0} (d : disk.Ghosts D) where
             subst (λ (t : State). EndedOnErr e x y (course_of_failure (ToErr for line)) (state_in d old before) t r)
             (sym (state told))
             (fails.ended for (state_in d old before));
-        limits = λ told i rows.
+        limits = λ told. by_index (λ i rows.
             subst (λ (f : Files). LimitsTurn i (state_in d old before) (store_of before) (store_of after) from f [] r)
             (sym (files told))
-            (line_limits i (state_in d old before) (store_of before) (store_of after) r store fails.kinds);
+            (line_limits i (state_in d old before) (store_of before) (store_of after) r store fails.kinds));
         whole = λ told was. line_whole (d.files new).idx r fails.kinds (subst IsWholeIndex (sym (idx told)) was);
         bad = λ told. line_bad (d.files old).idx r fails.kinds;
         given = λ told. ok_any r (none told);
@@ -230,7 +230,7 @@ module _ {D : Type 0} (d : disk.Ghosts D) where
       {after = after} course f h is ends limits whole drops bad indexed runs cause
       failed = rw is (record {
         ended = λ told. ends (state_in d old before) (state_in d new after);
-        limits = limits;
+        limits = λ told. by_index (limits told);
         whole = λ told was. whole_halt (d.files new).idx f (whole told was);
         bad = λ told. halt_bad drops (d.files old).idx f (bad told);
         given = λ told. tt;
@@ -264,12 +264,12 @@ module _ {D : Type 0} (d : disk.Ghosts D) where
       ended = λ told.
           ends.both a b (state_in d old before) (state_in d at db) (state_in d new after) one r (first.ended told)
           (second.ended told);
-      limits = λ told i rows.
+      limits = λ told. by_index (λ i rows.
           limits_then i a.changes b.changes (state_in d old before) (state_in d at db) (store_of before) (store_of db)
           (store_of after) one
           (ends.state_is a (state_in d old before) (state_in d at db) one (first.ended told))
-          (first.limits told i rows) r
-          (second.limits told i (λ is. asks first.left.carried told (rows is)));
+          (at_index (first.limits told) i rows) r
+          (at_index (second.limits told) i (λ is. asks first.left.carried told (rows is))));
       whole = λ told was. whole_plus (d.files new).idx one r (second.whole told (first.whole told was));
       bad = λ told.
           bad_plus (d.files old).idx one r (subst (λ (idx : Units). BadTurn idx r) (stays first.left.carried told)
@@ -322,11 +322,11 @@ module _ {D : Type 0} (d : disk.Ghosts D) where
       → ProgressBy d C P T G from to old new before after (Err h) F (joined_courses a b)
   went_ahead {from = from} {old = old} {new = new} {before = before} {after = after} {h = h} ahead a b w = record {
     ended = λ told. ahead a b (state_in d old before) (state_in d new after) h (w.ended told);
-    limits = λ told i rows.
+    limits = λ told. by_index (λ i rows.
         limits_stop i [] a.changes (state_in d old before) (state_in d old before) (store_of before) (store_of before)
         (store_of after) no_tally refl
         (limits_none {files = from} i (state_in d old before) (store_of before) no_tally) b.changes h
-        (w.limits told i rows);
+        (at_index (w.limits told) i rows));
     whole = w.whole;
     bad = w.bad;
     given = λ told. tt;
@@ -342,9 +342,9 @@ module _ {D : Type 0} (d : disk.Ghosts D) where
   counted_went {C = C} {old = old} {new = new} {before = before} {after = after} {E = E} course a b same w = record {
     ended = λ told. subst (λ (tally : Tally). E course (state_in d old before) (state_in d new after) (Ok tally))
         (same told) (w.ended told);
-    limits = λ told i rows.
+    limits = λ told. by_index (λ i rows.
         limits_counted i (state_in d old before) (store_of before) (store_of after) course.changes a b
-        (w.limits told i rows);
+        (at_index (w.limits told) i rows));
     whole = w.whole;
     bad = λ told. tt;
     given = w.given;

@@ -16,7 +16,8 @@ use Rattle.rpm_db.specs.laws.RoomLaws.{next_spare}
 use Rattle.rpm_effects.specs.declared.tally.Tally.{Tally}
 use Rattle.rpm_effects.specs.declared.tally.Halt.{Halt}
 use Rattle.rpm_effects.specs.declared.tally.Halt.TheVariants as halt
-use Rattle.rpm_change.specs.Limits.{is_spent, is_large, needed_index, limit_of_change, limit_of_changes}
+use Rattle.rpm_change.specs.Limits.{is_spent, is_large, limit_of_change, limit_of_changes}
+use Rattle.rpm_db.specs.Reaches.{units_needed_after}
 use Rattle.rpm_change.specs.Limits.{limit_of_command, next_stores, is_limit, MeetsLimit, LimitsTurn}
 use Rattle.rpm_effects.specs.Steps.{apply_all}
 use Rattle.rpm_change.specs.laws.ReachLaws.{reached_more}
@@ -39,7 +40,7 @@ refusal_spare : (i : Bool) (s : State) (k : ℕ) (v : Store) (c : Change)
 refusal_spare i s k v c =
     ap (λ (nowhere : Bool). if is_spent s c then Some halt.NumbersSpent
     else if v.generation == 4294967295 then Some halt.GenerationSpent
-    else if nowhere then Some halt.StoreFull else if i && is_large s c then Some (halt.IndexFull (needed_index s c))
+    else if nowhere then Some halt.StoreFull else if i && is_large s c then Some (halt.IndexFull (units_needed_after s c))
     else None)
     (ap is_none (next_spare c k v) ∙ none_spare k (next_store c v))
 
@@ -162,7 +163,7 @@ never_bad i (c ∷ cs) s v unit is =
     let w = unwrap_or (next_store c v) v in
     elim (or_cases (limit_of_change i s v c) (limit_of_changes i (apply c s) w cs) (halt.BadIndex unit) is) [
       | inl here ↦ chosen_bad (is_spent s c) (v.generation == 4294967295) (is_none (next_store c v)) (i && is_large s c)
-          (needed_index s c) unit here
+          (units_needed_after s c) unit here
       | inr both ↦ never_bad i cs (apply c s) w unit both.1
     ]
 
@@ -235,7 +236,7 @@ unasked_none (c ∷ cs) s v none =
     let parts = or_none (limit_of_change true s v c) (limit_of_changes true (apply c s) w cs) none in
     ap (λ (o : Option Halt). option_or o (limit_of_changes false (apply c s) w cs))
     (chosen_none (is_spent s c) (v.generation == 4294967295) (is_none (next_store c v)) (is_large s c)
-    (needed_index s c) parts.0)
+    (units_needed_after s c) parts.0)
     ∙ unasked_none cs (apply c s) w parts.1
 
 unasked_some : (cs : List Change) (s : State) (v : Store) (h : Halt) → is_limit false h ≡ true
@@ -247,10 +248,10 @@ unasked_some (c ∷ cs) s v h limit is =
     elim (or_cases (limit_of_change true s v c) (limit_of_changes true (apply c s) w cs) h is) [
       | inl here ↦ ap (λ (o : Option Halt). option_or o (limit_of_changes false (apply c s) w cs))
           (chosen_before (is_spent s c) (v.generation == 4294967295) (is_none (next_store c v)) (is_large s c)
-          (needed_index s c) h limit here)
+          (units_needed_after s c) h limit here)
       | inr both ↦ ap (λ (o : Option Halt). option_or o (limit_of_changes false (apply c s) w cs))
           (chosen_none (is_spent s c) (v.generation == 4294967295) (is_none (next_store c v)) (is_large s c)
-          (needed_index s c) both.0)
+          (units_needed_after s c) both.0)
           ∙ unasked_some cs (apply c s) w h limit both.1
     ]
 

@@ -31,6 +31,7 @@ use Rattle.rpm_change.specs.Limits.{is_limit}
 use Rattle.rpm_change.specs.Reaches.{all_added}
 use Rattle.rpm_effects.specs.Steps.{Course}
 use Rattle.rpm_change.specs.Progress.{IsChangeable, IsOwing, ProgressInBoth, ProgressOwing}
+use Rattle.rpm_change.specs.inner.IndexLaws.{at_index, by_index}
 use Rattle.rpm_change.specs.laws.Leaving.{halt_bad, halted_by, then_by, whole_halt}
 use Rattle.rpm_change.specs.laws.ReachLaws.{idx_more}
 use Rattle.rpm_change.specs.laws.Single.{other_stop}
@@ -96,9 +97,9 @@ module _ {D : Type 0} (d : disk.Ghosts D) {a : D} {db : Database} {owed : RowCha
         → ProgressInBoth d T a m db mid (Err h) E course
     list_stopped w = record {
       ended = w.ended;
-      limits = λ told i rows.
-          (let l = w.limits told i (λ asked. owing_begun.owes (tells told) (rows asked)) in
-          record { first = l.first; stores = tt; raised = tt; reached = tt });
+      limits = λ told. by_index (λ i rows.
+          (let l = at_index (w.limits told) i (λ asked. owing_begun.owes (tells told) (rows asked)) in
+          record { first = l.first; stores = tt; raised = tt; reached = tt }));
       whole = w.whole;
       bad = w.bad;
       given = λ told. tt;
@@ -119,14 +120,14 @@ module _ {D : Type 0} (d : disk.Ghosts D) {a : D} {db : Database} {owed : RowCha
           length-replicate (due_units (d.files a).pkg (d.files a).idx (suspended_database db) owed) blank ∙ rw test refl
 
       -- the index has all rows
-      pub list_durable : store_of after ≡ store_of mid → (IsTrue d.tells → (d.files e).pkg ≡ (d.files m).pkg)
+      pub list_finished : store_of after ≡ store_of mid → (IsTrue d.tells → (d.files e).pkg ≡ (d.files m).pkg)
           → HasItsRows d m e mid after more
           → (IsTrue d.tells → IsWholeIndex (d.files m).idx → IsWholeIndex (d.files e).idx)
           → ProgressInBoth d T a e db after (Ok tally) E course
-      list_durable store pkg durable whole = record {
+      list_finished store pkg durable whole = record {
         ended = λ told. rw (pkg (tells told), store) (w.ended told);
-        limits = λ told i rows.
-            let l = w.limits told i (λ asked. owing_begun.owes (tells told) (rows asked)) in
+        limits = λ told. by_index (λ i rows.
+            let l = at_index (w.limits told) i (λ asked. owing_begun.owes (tells told) (rows asked)) in
             record {
               first = l.first;
               stores = rw store l.stores;
@@ -144,7 +145,7 @@ module _ {D : Type 0} (d : disk.Ghosts D) {a : D} {db : Database} {owed : RowCha
                           (omega (arith, begins)),
                     );
               };
-            };
+            });
         whole = λ told was. whole told (w.whole told was);
         bad = λ told. tt;
         given = λ told.
@@ -168,20 +169,20 @@ module _ {D : Type 0} (d : disk.Ghosts D) {a : D} {db : Database} {owed : RowCha
       }
 
       -- or it hasn't
-      pub list_unsettled : (f : ChangeFault) → ((s t u : State) → E course s t (Ok tally)
+      pub list_unfinished : (f : ChangeFault) → ((s t u : State) → E course s t (Ok tally)
           → E course s u (Err (halt_of f))) → IsOfIndex f
           → (IsTrue d.tells → OwesOn d m mid more → IsOfReading f)
           → (IsTrue d.tells → IsWholeIndex (d.files m).idx → WholeCause f)
           → (IsTrue d.tells → BadCause more.drops (d.files m).idx f)
           → (f ≡ fault.DiskFault → Rose (d.faults m) (d.faults e))
           → ProgressInBoth d T a e db after (Err (halt_of f)) E course
-      list_unsettled f stops kinds full whole bad rose =
+      list_unfinished f stops kinds full whole bad rose =
           let C = IsChangeable d a e db after in
           record {
             ended = λ told. stops (state_in d a db) (state_in d m mid) (state_in d e after) (w.ended told);
-            limits = λ told i rows.
+            limits = λ told. by_index (λ i rows.
                 other_stop i (state_in d a db) (store_of db) (store_of after) course.changes (halt_of f)
-                (end_limit i f kinds (λ asked. full (tells told) (owes_last (tells told) (rows asked))));
+                (end_limit i f kinds (λ asked. full (tells told) (owes_last (tells told) (rows asked)))));
             whole = λ told was. whole_halt (d.files e).idx f (whole told (w.whole told was));
             bad = λ told. halt_bad more.drops (d.files a).idx f
                 (subst (λ (idx : Units). BadCause more.drops idx f) (w.left.carried.stays told) (bad told));

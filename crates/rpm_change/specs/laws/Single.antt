@@ -20,7 +20,8 @@ use Rattle.rpm_effects.specs.declared.tally.Tally.{Tally}
 use Rattle.rpm_effects.specs.declared.tally.Halt.{Halt}
 use Rattle.rpm_effects.specs.declared.tally.Halt.TheVariants as halt
 use Rattle.rpm_effects.specs.Progress.{halt_of}
-use Rattle.rpm_change.specs.Limits.{is_spent, is_large, needed_index, limit_of_change, next_stores, is_limit}
+use Rattle.rpm_change.specs.Limits.{is_spent, is_large, limit_of_change, next_stores, is_limit}
+use Rattle.rpm_db.specs.Reaches.{units_needed_after}
 use Rattle.rpm_change.specs.Limits.{LimitsTurn}
 use Rattle.rpm_change.specs.Singles.{IsOfChange, IsRefusing, IsSpent}
 use Rattle.rpm_change.specs.laws.ReachLaws.{reached_none, reached_one}
@@ -78,12 +79,12 @@ fits_index true n fits = let most = fits refl in grind (arith, nat_tests, most)
 
 module _ (i : Bool) (s : State) (c : Change) (v : Store) where
   pub none_refuses : (w : Store) → HasNumber s c → v.generation ≢ 4294967295 → next_store c v ≡ Some w
-      → (i ≡ true → needed_index s c ≤ 2 ^ 28)
+      → (i ≡ true → units_needed_after s c ≤ 2 ^ 28)
       → limit_of_change i s v c ≡ None
   none_refuses w number unspent placed fits =
       same_chosen (is_spent s c) (v.generation == 4294967295) (is_none (next_store c v))
-      (i && is_large s c) false false false false (needed_index s c)
-      (is_left s c number) (not_last v.generation unspent) (ap is_none placed) (fits_index i (needed_index s c) fits)
+      (i && is_large s c) false false false false (units_needed_after s c)
+      (is_left s c number) (not_last v.generation unspent) (ap is_none placed) (fits_index i (units_needed_after s c) fits)
 
   -- what a fault says of it
   abbrev pub SingleFaultIs : ChangeFault → Type 0
@@ -92,7 +93,7 @@ module _ (i : Bool) (s : State) (c : Change) (v : Store) where
   SingleFaultIs fault.StoreFull = HasNumber s c × (v.generation ≢ 4294967295) × (next_store c v ≡ None)
   SingleFaultIs (fault.IndexFull told) =
       HasNumber s c × (v.generation ≢ 4294967295) × IsSome (next_store c v)
-      × (i ≡ true → FullCause (needed_index s c) (fault.IndexFull told))
+      × (i ≡ true → FullCause (units_needed_after s c) (fault.IndexFull told))
   SingleFaultIs (fault.BadIndex unit) = i ≡ true → ⊥
   SingleFaultIs others = Unit {0}
 
@@ -100,20 +101,20 @@ module _ (i : Bool) (s : State) (c : Change) (v : Store) where
       → limit_of_change i s v c ≡ Some (halt_of f)
   fault_refuses fault.NumbersSpent is limit =
       same_chosen (is_spent s c) (v.generation == 4294967295) (is_none (next_store c v)) (i && is_large s c) true _ _ _
-      (needed_index s c) is refl refl refl
+      (units_needed_after s c) is refl refl refl
   fault_refuses fault.GenerationSpent is limit =
       same_chosen (is_spent s c) (v.generation == 4294967295) (is_none (next_store c v))
-      (i && is_large s c) false true _ _ (needed_index s c)
+      (i && is_large s c) false true _ _ (units_needed_after s c)
       (is_left s c is.0) (is_last v.generation is.1) refl refl
   fault_refuses fault.StoreFull is limit =
       same_chosen (is_spent s c) (v.generation == 4294967295) (is_none (next_store c v))
-      (i && is_large s c) false false true _ (needed_index s c)
+      (i && is_large s c) false false true _ (units_needed_after s c)
       (is_left s c is.0) (not_last v.generation is.1) (ap is_none is.2) refl
   fault_refuses (fault.IndexFull told) is limit =
       let full = is.3 limit in
       let large : is_large s c ≡ true = (let more = full.0 in grind (arith, nat_tests, more)) in
       same_chosen (is_spent s c) (v.generation == 4294967295) (is_none (next_store c v))
-      (i && is_large s c) false false false true (needed_index s c)
+      (i && is_large s c) false false false true (units_needed_after s c)
       (is_left s c is.0) (not_last v.generation is.1) (some_place (next_store c v) is.2) (rw (limit, large) refl)
       ∙ ap (λ (n : ℕ). Some (halt.IndexFull n)) (sym full.1)
   fault_refuses (fault.BadIndex unit) is limit = absurd (is limit)
@@ -129,7 +130,7 @@ module _ (i : Bool) (s : State) (c : Change) (v : Store) where
 
   pub one_made : {old new : Files} (w : Store) (tally : Tally) → HasNumber s c → v.generation ≢ 4294967295
       → RoomBecomes (next_store c v) v w
-      → w.generation ≡ v.generation + 1 → (i ≡ true → needed_index s c ≤ 2 ^ 28) → ReachesTo w old.pkg new.pkg
+      → w.generation ≡ v.generation + 1 → (i ≡ true → units_needed_after s c ≤ 2 ^ 28) → ReachesTo w old.pkg new.pkg
       → (i ≡ true → Reaches s c old.idx new.idx) → LimitsTurn i s v w old new (c ∷ []) (Ok tally)
   one_made {old = old} {new = new} w tally number unspent placed raised fits pkg idx = record {
     first = ap (λ (o : Option Halt). option_or o None) (none_refuses (with_spare v.spare w) number unspent placed fits);
@@ -157,7 +158,7 @@ other_stop i s v w changes h other = record { first = λ limit. absurd cc; store
 pub add_fault : (i : Bool) (A : Type 0) (db : Database) (s : State) (bytes blob : List ℕ) (f : ChangeFault)
     → next s ≡ next_package_number db
     → AddAnswer {A = A} db bytes (Err f) → RoomCause (next_store (Add blob) (store_of db)) f
-    → (i ≡ true → FullCause (needed_index s (Add blob)) f)
+    → (i ≡ true → FullCause (units_needed_after s (Add blob)) f)
     → SingleFaultIs i s (Add blob) (store_of db) f
 add_fault i A db s bytes blob fault.NumbersSpent law cause room full = is_last (next s) (law ∙ cause.1)
 add_fault i A db s bytes blob fault.GenerationSpent law cause room full = (λ is. cause.0 (sym law ∙ is), cause.1.later)
@@ -170,7 +171,7 @@ add_fault i A db s bytes blob others law cause room full = tt
 
 pub put_fault : (i : Bool) (A : Type 0) (db : Database) (s : State) (n : ℕ) (bytes blob : List ℕ) (f : ChangeFault)
     → PutAnswer {A = A} db n bytes (Err f)
-    → RoomCause (next_store (Put n blob) (store_of db)) f → (i ≡ true → FullCause (needed_index s (Put n blob)) f)
+    → RoomCause (next_store (Put n blob) (store_of db)) f → (i ≡ true → FullCause (units_needed_after s (Put n blob)) f)
     → SingleFaultIs i s (Put n blob) (store_of db) f
 put_fault i A db s n bytes blob fault.NumbersSpent cause room full = absurd cause.1.later
 put_fault i A db s n bytes blob fault.GenerationSpent cause room full = (tt, cause.1.later)
@@ -180,7 +181,7 @@ put_fault i A db s n bytes blob (fault.BadIndex unit) cause room full = full
 put_fault i A db s n bytes blob others cause room full = tt
 
 pub erase_fault : (i : Bool) (db : Database) (s : State) (n : ℕ) (f : ChangeFault) → EraseCause db n f
-    → (i ≡ true → FullCause (needed_index s (Erase n)) f)
+    → (i ≡ true → FullCause (units_needed_after s (Erase n)) f)
     → SingleFaultIs i s (Erase n) (store_of db) f
 erase_fault i db s n fault.NumbersSpent cause full = absurd cause.2
 erase_fault i db s n fault.GenerationSpent cause full = (tt, cause.2)

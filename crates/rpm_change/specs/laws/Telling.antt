@@ -20,6 +20,7 @@ use Rattle.rpm_effects.specs.Shown.{EndedOnOut, EndedQuietly}
 use Rattle.rpm_change.specs.Progress.{ProgressBy}
 use Rattle.rpm_effects.specs.laws.Courses.{stopped_by}
 use Rattle.rpm_effects.specs.laws.Joins.{out_gone, took}
+use Rattle.rpm_change.specs.inner.IndexLaws.{by_index}
 use Rattle.rpm_change.specs.laws.Leaving.{after_by}
 use Rattle.rpm_change.specs.laws.Single.{other_stop}
 
@@ -77,7 +78,7 @@ module _ {D S : Type 0} (d : disk.Ghosts D) (of : sink.Ghosts S) (changes : List
             };
             reads = tt;
           };
-      limits = λ told i rows. other_stop i _ _ _ _ halt.OutFault refl;
+      limits = λ told. by_index (λ i rows. other_stop i _ _ _ _ halt.OutFault refl);
       whole = λ told was. tt;
       bad = λ told. tt;
       given = λ told. tt;

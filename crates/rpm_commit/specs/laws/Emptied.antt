@@ -12,7 +12,7 @@ use Rattle.rpm_outside.specs.Files.{Files, Units}
 use Rattle.rpm_pkgdb.specs.declared.slot.Damage.{Damage}
 use Rattle.rpm_commit.specs.Changing.{EmptyBy, EmptyIs, EmptyOn}
 use Rattle.rpm_commit.specs.Working.{done_why, TransactionCount, OpensBy, OpensIn, why_of, why_of_exercise}
-use Rattle.rpm_commit.specs.OneChange.{FoundStore}
+use Rattle.rpm_commit.specs.Stages.{FoundStore}
 use Rattle.rpm_db.specs.Database.{store_of}
 use Rattle.rpm_db.specs.Openings.{must_rebuild, units_needed}
 use Rattle.rpm_db.specs.laws.PackageLaws.{is_there}

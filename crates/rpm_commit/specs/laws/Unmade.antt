@@ -1,6 +1,6 @@
 -- A command that changed nothing: each that was stopped, and one that didn't begin, or whose database wasn't recovered,
 -- or wasn't loaded.
-use Rattle.std.proofs.Common.{◌≡◌, ℕ, true, [], Result, Ok, Err, refl, sym, ap, ◌∙◌, subst, inl, append-nil}
+use Rattle.std.proofs.Common.{◌≡◌, ℕ, List, true, [], Result, Ok, Err, refl, sym, ap, ◌∙◌, subst, inl, append-nil}
 use Rattle.rpm_outside.specs.declared.disk.Disk as disk
 use Rattle.rpm_effects.specs.Steps.{Course}
 use Rattle.rpm_outside.specs.Files.{Files}
@@ -14,7 +14,9 @@ use Rattle.rpm_commit.specs.Tasks.{changes_index, is_anew, TaskParts}
 use Rattle.rpm_group.specs.Loads.{IsSound, LoadSays}
 use Rattle.rpm_group.specs.declared.load.LoadFault.{LoadFault}
 use Rattle.rpm_commit.specs.Lawful.{IsLawfulDatabase}
-use Rattle.rpm_commit.specs.Limits.{LimitsBy, LogBy, OneChange}
+use Rattle.rpm_commit.specs.Answers.{AnswersChange}
+use Rattle.rpm_commit.specs.Limits.{LimitsBy, LogBy}
+use Rattle.rpm_commit.specs.Run.{ran}
 use Rattle.rpm_effects.specs.Progress.{Outputs, Through}
 use Rattle.rpm_effects.specs.laws.Courses.{none_gone}
 use Rattle.rpm_db.specs.State.{State, state}
@@ -29,6 +31,7 @@ use Rattle.rpm_group.specs.declared.load.LoadFault.TheVariants as load
 use Rattle.rpm_group.specs.declared.recovery.RecoverFault.TheVariants as recover
 use Rattle.rpm_group.specs.laws.KeptLogs.{same_kept}
 use Rattle.rpm_effects.specs.declared.answer.Why.TheVariants as why
+use Rattle.rpm_change.specs.inner.IndexLaws.{by_index}
 use Rattle.rpm_commit.specs.laws.Outcomes.{leaves_start}
 use Rattle.rpm_commit.specs.laws.Recovered.{recovering, recovering_fits, recovering_still}
 use Rattle.rpm_commit.specs.laws.Standing.{if_ok}
@@ -68,7 +71,8 @@ module _ (course : Store → Course) (x : Outputs) where
 
 -- ---- what is left, and what is said
 
-module _ {D : Type 0} (d : disk.Ghosts D) (task : TaskParts) (course : State → Course) (old new : D)
+module _ {D : Type 0} (d : disk.Ghosts D) (words : List (List ℕ)) (task : TaskParts) (course : State → Course)
+    (old new : D)
     (stands : reopened (d.files new) ≡ reopened (d.files old)) (kept : KeepsLog (d.files old) (d.files new))
     (run : CrashLeaves d old new (ReopensAsOneOf (images d old))) where
   abbrev r : Files
@@ -87,12 +91,12 @@ module _ {D : Type 0} (d : disk.Ghosts D) (task : TaskParts) (course : State →
       → ChangeProgressOn course (d.files old) w before now
       → BadBy (changes_index task) r.pkg r.idx w → (Lawful → is_of_lawful w ≡ true)
       → LimitsBy (is_anew task) Lawful course r w
-      → LogBy (is_anew task) Lawful course r w → OneChange d task course w 0 old new before now
+      → LogBy (is_anew task) Lawful course r w → AnswersChange (ran d words w 0 (old, new) (before, now)) task course
   still_one w before now undone did bad complete limits log = record {
     did = did;
     changed = record {
       counted = λ no. refl;
-      leaves = if_ok (store r.pkg) (λ s is. leaves_start course (state r.pkg s) w (d.files new) undone
+      state_is = if_ok (store r.pkg) (λ s is. leaves_start course (state r.pkg s) w (d.files new) undone
           (record {
             value = s;
             undamaged = ap (λ (f : Files). store f.pkg) stands
@@ -120,22 +124,24 @@ module _ {D : Type 0} (d : disk.Ghosts D) (task : TaskParts) (course : State →
   }
 
   pub unmade_one : (x : Outputs) (w : Why) → IsEarly (log_state (d.files old).log) w
-      → OneChange d task course w 0 old new x x
+      → AnswersChange (ran d words w 0 (old, new) (x, x)) task course
   unmade_one x (why.BadLog unit) is = still_one (why.BadLog unit) x x (λ done. cc)
       (subst (λ (l : LogState). ChangeProgressOnLog (λ s. course (state r.pkg s)) (store r.pkg) l (why.BadLog unit) x x)
       (sym is) (refl, through_none x))
       (λ u bad. absurd cc) (λ lawful. absurd (subst IsSound is lawful.sound))
-      (λ indexed may. if_ok (store r.pkg) (λ s stored. tt)) (λ indexed may. tt)
+      (by_index (λ indexed may. if_ok (store r.pkg) (λ s stored. tt))) (by_index (λ indexed may. tt))
   unmade_one x why.DiskFault is = still_one why.DiskFault x x (λ done. cc)
       (early_any (λ s. course (state r.pkg s)) x why.DiskFault (λ c. none_gone c x x (through_none x)) (λ e. tt)
       (λ unit. tt)
       (log_state (d.files old).log) (store r.pkg))
-      (λ u bad. absurd cc) (λ lawful. refl) (λ indexed may. if_ok (store r.pkg) (λ s stored. tt)) (λ indexed may. tt)
+      (λ u bad. absurd cc) (λ lawful. refl) (by_index (λ indexed may. if_ok (store r.pkg) (λ s stored. tt)))
+      (by_index (λ indexed may. tt))
   unmade_one x why.NoMemory is = still_one why.NoMemory x x (λ done. cc)
       (early_any (λ s. course (state r.pkg s)) x why.NoMemory (λ c. none_gone c x x (through_none x)) (λ e. tt)
       (λ unit. tt)
       (log_state (d.files old).log) (store r.pkg))
-      (λ u bad. absurd cc) (λ lawful. refl) (λ indexed may. if_ok (store r.pkg) (λ s stored. tt)) (λ indexed may. tt)
+      (λ u bad. absurd cc) (λ lawful. refl) (by_index (λ indexed may. if_ok (store r.pkg) (λ s stored. tt)))
+      (by_index (λ indexed may. tt))
   unmade_one x others is = absurd is
 
 -- no call at all

@@ -12,7 +12,7 @@ use Rattle.rpm_pkgdb.specs.Store.{in_file, Store, store}
 use Rattle.rpm_pkgdb.specs.declared.slot.Damage.{Damage}
 use Rattle.rpm_commit.specs.Limits.{command_limit}
 use Rattle.rpm_commit.specs.Reaches.{begun_store}
-use Rattle.rpm_commit.specs.OneChange.{FoundStore}
+use Rattle.rpm_commit.specs.Stages.{FoundStore}
 use Rattle.rpm_db.specs.Database.{store_of}
 use Rattle.rpm_db.specs.Openings.{must_rebuild, units_needed}
 use Rattle.rpm_db.specs.Rows.{rows}

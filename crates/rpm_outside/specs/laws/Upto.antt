@@ -36,7 +36,7 @@ module _ {S : Type 0} {s : sink.Ghosts S} where
   }
 
   -- the first of two pieces fails
-  pub first_crashes : {T U E F : Type 0} {all x : List ℕ} {old new : S} {e : E} (y : List ℕ) (r : Result U F) → IsErr r
+  pub first_stops : {T U E F : Type 0} {all x : List ℕ} {old new : S} {e : E} (y : List ℕ) (r : Result U F) → IsErr r
       → x ++ y ≡ all
       → Writes s {T = T} {E = E} old new x (Err e) → Writes s old new all r
   first_stops y (Ok t) fails eq w = absurd cc

@@ -1,7 +1,8 @@
 use Rattle.std.proofs.Common.{None}
 use Rattle.rpm_change.proofs.Vocabulary.{err_is, err_stopped}
 use Rattle.rpm_change.proofs.Erased.{erasing_puts, kind_of_index}
-use Rattle.rpm_change.specs.laws.Owing.{list_durable, list_stopped, list_unsettled, owing_begun}
+use Rattle.rpm_change.proofs.Halted.{index_halts}
+use Rattle.rpm_change.specs.laws.Owing.{list_finished, list_stopped, list_unfinished, owing_begun}
 use Rattle.rpm_change.proofs.add.add_files.Goals as goal
 
 pub add_each-requires-clause-gathering : goal.add_each-requires-clause-gathering
@@ -14,24 +15,27 @@ returns-in_err-tally-clause-went g c =
     rw (err_is c.from_residual.result c.from_residual.ensures)
     (list_stopped g.D.Disk c.requires.ready b.goes b.order b.sealed b.none (λ both. both.0) (rw b.same at c.in_err-tally.ensures.went))
 
-pub returns-clause-went : goal.returns-clause-went
-returns-clause-went g c =
+pub returns-in-Ok-clause-went : goal.returns-in-Ok-clause-went
+returns-in-Ok-clause-went g c =
     let b = c.begin-batch.ensures in
-    let f = c.in_ok-finish.ensures in
-    list_durable g.D.Disk c.requires.ready b.goes b.order b.sealed b.none (λ both. both.0) g.met.D.Disk.follows_trans c.finish.new.db
+    let f = c.in-Ok.ensures in
+    list_finished g.D.Disk c.requires.ready b.goes b.order b.sealed b.none (λ both. both.0) g.met.D.Disk.follows_trans c.finish.new.db
     (rw b.same at c.in_ok-tally.ensures.went) f.left.indexed f.runs f.cause.later f.store f.packages f.has_rows f.whole
 
-pub returns-in_err-finish-clause-went : goal.returns-in_err-finish-clause-went
-returns-in_err-finish-clause-went g c =
+pub halt_of-requires : goal.halt_of-requires
+halt_of-requires g c = record { halting = index_halts c.in-Err.fault c.in-Err.ensures.kinds }
+
+pub returns-in-Err-clause-went : goal.returns-in-Err-clause-went
+returns-in-Err-clause-went g c =
     let b = c.begin-batch.ensures in
-    let f = c.in_err-finish.ensures in
-    let fault = c.in_err-finish.field-0.0 in
-    rw (err_is c.from_residual-in_err-finish.result c.from_residual-in_err-finish.ensures)
-    (list_unsettled g.D.Disk c.requires.ready b.goes b.order b.sealed b.none (λ both. both.0) g.met.D.Disk.follows_trans c.finish.new.db
+    let f = c.in-Err.ensures in
+    let fault = c.in-Err.fault in
+    rw c.halt_of.ensures
+    (list_unfinished g.D.Disk c.requires.ready b.goes b.order b.sealed b.none (λ both. both.0) g.met.D.Disk.follows_trans c.finish.new.db
     (rw b.same at c.in_ok-tally.ensures.went) f.left.indexed f.runs f.cause.later fault (err_stopped g.E.Sink c.args.err.now c.add_each.new.err fault)
     f.kinds f.full f.whole f.left.bad (λ is. f.cause.rose (cc)))
 
-pub returns-in_err-finish-clause-kinds : goal.returns-in_err-finish-clause-kinds
-returns-in_err-finish-clause-kinds g c =
-    rw (err_is c.from_residual-in_err-finish.result c.from_residual-in_err-finish.ensures)
-    (erasing_puts None _ (kind_of_index c.in_err-finish.field-0.0 c.in_err-finish.ensures.kinds))
+pub returns-in-Err-clause-kinds : goal.returns-in-Err-clause-kinds
+returns-in-Err-clause-kinds g c =
+    rw c.halt_of.ensures
+    (erasing_puts None _ (kind_of_index c.in-Err.fault c.in-Err.ensures.kinds))

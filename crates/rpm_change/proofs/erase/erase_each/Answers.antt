@@ -1,5 +1,5 @@
 use Rattle.std.proofs.Common.{◌+◌, get_or, drop, refl, arith}
-use Rattle.rpm_change.proofs.Vocabulary.{apply_all, erase, erase_one, err_is, err_joins, err_none, going_end, going_more, going_start, going_stop, in_turn}
+use Rattle.rpm_change.proofs.Vocabulary.{apply_all, erase, erase_one, err_is, err_joins, err_none, going_end, going_more, going_start, going_stop, hand_then, in_turn}
 use Rattle.rpm_change.proofs.Vocabulary.{inner, none_went, state_in}
 use Rattle.rpm_change.proofs.Arguments.{turn_next, turn_none}
 use Rattle.rpm_change.specs.laws.Owing.{owing_none, owing_then}
@@ -46,6 +46,13 @@ returns-in_err-tally-clause-went g c =
     (going_stop g.D.Disk g.met.D.Disk.follows_trans (err_joins g.E.Sink c.args.err.now c.loop-number.err c.erase_one.new.err)
     (owing_then g.D.Disk) (λ owing told rows. owing.owes told rows) (λ owing. owing.stays) turn (in_turn erase_one u (k + 1) (drop (k + 1) xs))
     c.loop-number.invariant.goes (λ told. turn_next erase_one xs k 0 t u (omega arith) refl) (c.in_err-tally.ensures.went k))
+
+pub returns-in_err-tally-clause-err : goal.returns-in_err-tally-clause-err
+returns-in_err-tally-clause-err g c =
+    let inv = c.loop-number.invariant in
+    rw (err_is c.from_residual.result c.from_residual.ensures)
+    (hand_then g.E.Sink g.met.E.Sink.follows_trans c.args.err.now c.loop-number.err c.erase_one.new.err inv.err inv.err_rest
+    (λ is. cc) c.in_err-tally.ensures.err)
 
 pub returns-clause-went : goal.returns-clause-went
 returns-clause-went g c =

@@ -1,6 +1,6 @@
 use Rattle.std.proofs.Common.{◌≡◌, true, false, refl, sym, ◌∙◌, arith, nat_lt}
 use Rattle.std.proofs.lemmas.Bool.Decides.{nat_tests}
-use Rattle.rpm_change.proofs.Vocabulary.{Add, course_of_change, EndedOnErr, err_refused, halted_went, header_text, line_went, next-state, one_made}
+use Rattle.rpm_change.proofs.Vocabulary.{Add, by_index, course_of_change, EndedOnErr, err_refused, halted_went, header_text, line_went, next-state, one_made}
 use Rattle.rpm_change.proofs.Vocabulary.{place_fails, resumed_database, store_of, state_in, through_none, took, turn_found, went_as, whole_step}
 use Rattle.rpm_change.proofs.Gathered.{rows_owed}
 use Rattle.rpm_change.proofs.Imported.{add_limits}
@@ -32,10 +32,10 @@ returns-in-Ok-clause-went g c =
         changes = refl;
         state_is = made.state_is told;
       };
-      limits = λ told i rows.
+      limits = λ told. by_index (λ i rows.
           one_made i (state_in g.D.Disk c.args.disk.now c.args.db.now) (Add put.own.blob) v (store_of c.add.new.db) (record { failed = 0; changes = 1 })
           (λ is. done.causes.0 (sym law ∙ is)) put.later.0 gathers.room made.generation
-          (λ is. gathers.full told (rows is)) (done.end told) (λ is. made.reach told (rows is));
+          (λ is. gathers.full told (rows is)) (done.end told) (λ is. made.reach told (rows is)));
       whole = λ told whole. rw (done.index told) whole;
       bad = λ told. tt;
       given = λ told. rows_owed (made.rows told);
@@ -68,7 +68,7 @@ returns-in-Err-clause-went g c =
     let law = next-state (g.D.Disk.files c.args.disk.now).pkg (store_of db) in
     let within : nat_lt c.args.most c.args.place ≡ false = grind (arith, nat_tests) in
     let course = turn_found c.args.most c.args.place c.args.blob.now in
-    halted_went g.D.Disk course f c.from.result c.from.ensures (err_refused g.E.Sink c.args.err.now course f)
+    halted_went g.D.Disk course f c.halt_of.result c.halt_of.ensures (err_refused g.E.Sink c.args.err.now course f)
     (λ told i rows. rw within (add_limits i (resumed_database db) (state_in g.D.Disk c.args.disk.now db)
     (store_of c.add.new.db) c.args.place c.args.blob.now law f
     said.causes (λ h read. (said.gathers h read).room) (λ is h read. (said.gathers h read).full told (rows is))))

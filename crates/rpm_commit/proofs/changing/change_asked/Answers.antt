@@ -1,7 +1,7 @@
 use Rattle.std.proofs.Common.{◌≡◌, ◌+◌, ◌≤◌, true, Err, refl, sym, ap, ◌∙◌, subst, ⊎_elim, arith}
 use Rattle.std.specs.Prelude.{IsTrue}
 use Rattle.rpm_commit.proofs.Vocabulary.{asked_task, changes_index, Course, EmptyBy, Files, images, is_anew, is_of_streams, IsLawful, laid_files, LimitsBy, Log}
-use Rattle.rpm_commit.proofs.Vocabulary.{KeepsLog, log_state, needs_none, OneChange, overlay_below, overlay_held, overlay_read, overlay_starved, reads_shelf}
+use Rattle.rpm_commit.proofs.Vocabulary.{KeepsLog, log_state, needs_none, AnswersChange, overlay_below, overlay_held, overlay_read, overlay_starved, ran, reads_shelf}
 use Rattle.rpm_commit.proofs.Vocabulary.{recovered_kept, reopened, same_kept}
 use Rattle.rpm_commit.proofs.Vocabulary.{ReopensAsOneOf, Rose, shown_outputs, State, task_course, task_parts, TaskParts, without_log, why_of, why_of_load, why_of_recover}
 use Rattle.rpm_commit.proofs.Vocabulary.{with_file, Work}
@@ -14,8 +14,8 @@ use Rattle.rpm_commit.specs.laws.Standing.{shut_stands}
 use Rattle.rpm_commit.specs.laws.Unmade.{early_load, early_recover, idle_run, unmade_one}
 use Rattle.rpm_commit.proofs.changing.change_asked.Goals as goal
 
-pub returns-in-Ok-load-clause-one : goal.returns-in-Ok-load-clause-one
-returns-in-Ok-load-clause-one g c = λ told shelf.
+pub returns-in-Ok-load-clause-answers : goal.returns-in-Ok-load-clause-answers
+returns-in-Ok-load-clause-answers g c = λ told shelf.
     let D = g.D.Disk in
     let first = c.recover.new.disk in
     let end = c.change_on-ended.new.disk in
@@ -46,8 +46,9 @@ returns-in-Ok-load-clause-one g c = λ told shelf.
     ∙ sym (shut_stands (D.files first) (recovered.closed told)) ∙ recovered.stands told in
     let as_read = g.met.D.Disk.earlier final (D.moment last) (D.moment final) (D.files final) told ends.leaves.later (omega arith)
     (g.met.D.Disk.as_read final told) in
-    subst (λ (k : TaskParts). OneChange D k (task_course (g.S.Shelf.paths c.args.shelf.now) c.args.now k) given n c.args.disk final before now) asked
-    (transaction_one D t course c.args.disk last final log new before now (g.met.D.Disk.as_read c.args.disk told) _ (recovered.says told)
+    subst (λ (k : TaskParts). AnswersChange (ran D c.args.words.now given n (c.args.disk, final) (before, now)) k
+    (task_course (g.S.Shelf.paths c.args.shelf.now) c.args.now k)) asked
+    (transaction_one D c.args.words.now t course c.args.disk last final log new before now (g.met.D.Disk.as_read c.args.disk told) _ (recovered.says told)
     (below_run D first mid last ro rn looks works.runs.goes_on told c.args.disk (ReopensAsOneOf (images D c.args.disk)) (recovered.images told)) same as_read
     ended given n worked met works.halted ends (c.end_transaction.ensures.log told))
 
@@ -114,8 +115,8 @@ returns-in-Ok-load-clause-streams g c =
 
 -- ---- not loaded
 
-pub returns-in-Ok-recover-clause-one : goal.returns-in-Ok-recover-clause-one
-returns-in-Ok-recover-clause-one g c = λ told shelf.
+pub returns-in-Ok-recover-clause-answers : goal.returns-in-Ok-recover-clause-answers
+returns-in-Ok-recover-clause-answers g c = λ told shelf.
     let D = g.D.Disk in
     let first = c.recover.new.disk in
     let back = c.in-Err-load.refused.disk in
@@ -124,7 +125,7 @@ returns-in-Ok-recover-clause-one g c = λ told shelf.
     let recovered = c.in-Ok-recover.ensures in
     let t = asked_task c.args.words.now c.args.ask.now in
     rw (c.unchanged-in-Err-load.ensures, c.why_of_load.ensures)
-    (unmade_one D t (task_course (g.S.Shelf.paths c.args.shelf.now) c.args.now t) c.args.disk back
+    (unmade_one D c.args.words.now t (task_course (g.S.Shelf.paths c.args.shelf.now) c.args.now t) c.args.disk back
     (ap reopened (looks.untouched told).same ∙ recovered.stands told)
     (subst (λ (f : Files). KeepsLog (D.files c.args.disk) f) (sym (looks.untouched told).same)
     (recovered_kept (D.files c.args.disk) (D.files first) (recovered.kept told)))
@@ -134,22 +135,22 @@ returns-in-Ok-recover-clause-one g c = λ told shelf.
 
 -- ---- not recovered
 
-pub returns-clause-one : goal.returns-clause-one
-returns-clause-one g c = λ told shelf.
+pub returns-clause-answers : goal.returns-clause-answers
+returns-clause-answers g c = λ told shelf.
     let first = c.in-Err-recover.ensures in
     let fault = c.in-Err-recover.fault in
     let t = asked_task c.args.words.now c.args.ask.now in
     rw (c.unchanged-in-Err-recover.ensures, c.why_of_recover.ensures)
-    (unmade_one g.D.Disk t (task_course (g.S.Shelf.paths c.args.shelf.now) c.args.now t) c.args.disk c.recover.new.disk (first.stands told)
+    (unmade_one g.D.Disk c.args.words.now t (task_course (g.S.Shelf.paths c.args.shelf.now) c.args.now t) c.args.disk c.recover.new.disk (first.stands told)
     (recovered_kept (g.D.Disk.files c.args.disk) (g.D.Disk.files c.recover.new.disk) (first.kept told)) (first.images told)
     (shown_outputs g.O.Sink g.E.Sink c.args.out.now c.args.err.now) (why_of_recover fault)
     (early_recover (log_state (g.D.Disk.files c.args.disk).log) fault (first.says told)))
 
 -- ---- not begun
 
-pub returns-in-Err-clause-one : goal.returns-in-Err-clause-one
-returns-in-Err-clause-one g c = λ told shelf.
+pub returns-in-Err-clause-answers : goal.returns-in-Err-clause-answers
+returns-in-Err-clause-answers g c = λ told shelf.
     let t = asked_task c.args.words.now c.args.ask.now in
-    rw c.unchanged.ensures (unmade_one g.D.Disk t (task_course (g.S.Shelf.paths c.args.shelf.now) c.args.now t) c.args.disk c.args.disk refl
+    rw c.unchanged.ensures (unmade_one g.D.Disk c.args.words.now t (task_course (g.S.Shelf.paths c.args.shelf.now) c.args.now t) c.args.disk c.args.disk refl
     (same_kept (g.D.Disk.files c.args.disk)) (idle_run g.D.Disk c.args.disk)
     (shown_outputs g.O.Sink g.E.Sink c.args.out.now c.args.err.now) why.NoMemory tt)

@@ -1,4 +1,4 @@
-use Rattle.rpm_exercise.proofs.Vocabulary.{err_is, list_durable, list_stopped, list_unsettled, owing_begun, quiet_stopped, state_in}
+use Rattle.rpm_exercise.proofs.Vocabulary.{err_is, list_finished, list_stopped, list_unfinished, owing_begun, quiet_stopped, state_in}
 use Rattle.rpm_exercise.proofs.Parts.{all_is}
 use Rattle.rpm_exercise.proofs.Through.{index_changes}
 use Rattle.rpm_exercise.proofs.rounds.change_all.Goals as goal
@@ -18,27 +18,27 @@ returns-in_err-tally g c =
       kinds = said.kinds;
     })
 
-pub returns : goal.returns
-returns g c =
+pub returns-in-Ok : goal.returns-in-Ok
+returns-in-Ok g c =
     let all = all_is c.args.n (state_in g.D.Disk c.args.disk.now c.args.db.now) c.saturating_sub-b.ensures (c.next_number.ensures.told _) in
     let b = c.begin-batch.ensures in
-    let f = c.in_ok-finish.ensures in
+    let f = c.in-Ok.ensures in
     rw (← all) (record {
-      course = list_durable g.D.Disk c.requires.ready b.goes b.order b.sealed b.none (λ told. told) g.met.D.Disk.follows_trans c.finish.new.db
+      course = list_finished g.D.Disk c.requires.ready b.goes b.order b.sealed b.none (λ told. told) g.met.D.Disk.follows_trans c.finish.new.db
           (rw b.same at c.in_ok-tally.ensures.course) f.left.indexed f.runs f.cause.later f.store f.packages f.has_rows f.whole;
       spent = tt;
       kinds = tt;
     })
 
-pub returns-in_err-finish : goal.returns-in_err-finish
-returns-in_err-finish g c =
+pub returns-in-Err : goal.returns-in-Err
+returns-in-Err g c =
     let all = all_is c.args.n (state_in g.D.Disk c.args.disk.now c.args.db.now) c.saturating_sub-b.ensures (c.next_number.ensures.told _) in
     let b = c.begin-batch.ensures in
-    let f = c.in_err-finish.ensures in
-    let fault = c.in_err-finish.field-0.0 in
+    let f = c.in-Err.ensures in
+    let fault = c.in-Err.fault in
     let of = index_changes c.finish.new.db fault f.kinds in
-    rw (err_is c.from_residual-in_err-finish.result c.from_residual-in_err-finish.ensures, ← all) (record {
-      course = list_unsettled g.D.Disk c.requires.ready b.goes b.order b.sealed b.none (λ told. told) g.met.D.Disk.follows_trans c.finish.new.db
+    rw (c.halt_of.ensures, ← all) (record {
+      course = list_unfinished g.D.Disk c.requires.ready b.goes b.order b.sealed b.none (λ told. told) g.met.D.Disk.follows_trans c.finish.new.db
           (rw b.same at c.in_ok-tally.ensures.course) f.left.indexed f.runs f.cause.later fault (quiet_stopped fault) f.kinds f.full f.whole
           f.left.bad (λ is. f.cause.rose (cc));
       spent = of.0;

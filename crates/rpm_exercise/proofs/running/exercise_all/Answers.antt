@@ -42,7 +42,7 @@ returns-clause-limits g c = λ told.
       mid = f c.renew.new.disk;
       same = (said.runs.reads_as told).pkg;
       made = said.reach told;
-      holds = rw (← same, ← said.store) (c.change_and_tell.ensures.went.limits told true (λ yes. said.current.index told));
+      holds = rw (← same, ← said.store) ((c.change_and_tell.ensures.went.limits told).indexed (said.current.index told));
     }
 
 pub returns-in_err-renew-clause-limits : goal.returns-in_err-renew-clause-limits

@@ -29,7 +29,7 @@ returns-in-Change-clause-answers g c =
     let said = c.change_asked.ensures in
     let is = c.in-Change.ensures in
     answered c.in-Ok.ensures.ok (λ still. let both : true ≡ false = sym is ∙ still in absurd cc) said.keeps.counted said.streams.paths said.keeps.goes_on
-    (does_change is said.one said.empty said.streams.unread)
+    (does_change is said.answers said.empty said.streams.unread)
 
 -- ---- package files
 

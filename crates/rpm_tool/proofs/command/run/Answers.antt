@@ -1,5 +1,5 @@
 use Rattle.std.proofs.Common.{◌∙◌, ap, map, refl, rules}
-use Rattle.rpm_tool.proofs.Vocabulary.{Answers, closing, inner, outs, ran, word_at}
+use Rattle.rpm_tool.proofs.Vocabulary.{Answers, closing, inner, outs, ran, setting_at, word_at}
 use Rattle.rpm_tool.proofs.Arguments.{questions}
 use Rattle.rpm_tool.proofs.Closed.{ended, handed, counted_fault}
 use Rattle.rpm_tool.proofs.Faults.{le_self}
@@ -22,8 +22,8 @@ returns-clause-answers g c =
     (inner c.new-err.result).now (inner c.command-disk.new.err).now (inner c.put_closing.new.err).now c.args.err.now _ err
     c.command-disk.ensures.streams.hands.err.cause.later
     (record { ok = line.ok; err = line.err; cause = line.cause; goes_on = line.goes_on.1 }) (search rules) (search rules)
-    (Answers (ran g.D.Disk g.S.Shelf c.args.words.now c.args.now ending.why ending.changes (c.args.disk, c.args.shelf.now)
-    (outs g.O.Sink g.E.Sink c.args.out.now c.args.err.now) (c.command-disk.result.1, c.command-disk.new.shelf)))
+    (λ mid. Answers (ran g.D.Disk c.args.words.now ending.why ending.changes (c.args.disk, c.command-disk.result.1)
+    (outs g.O.Sink g.E.Sink c.args.out.now c.args.err.now, mid)) (setting_at g.S.Shelf c.args.now (c.args.shelf.now, c.command-disk.new.shelf)))
     (rw (out, err) at c.command-disk.ensures.answers)
 
 pub returns-clause-causes : goal.returns-clause-causes

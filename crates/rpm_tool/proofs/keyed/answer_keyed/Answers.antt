@@ -90,8 +90,8 @@ returns-in-Err-clause-keyed g c = λ told.
           (log_state files.log) fault (first.says told);
       reads = λ query group. omega (arith, first.reads.pkg);
       kind = unrecovered_kind fault;
-      full = unrecovered_full r fault;
-      bad = unrecovered_bad words a r fault;
+      index_full = unrecovered_full r fault;
+      bad_index = unrecovered_bad words a r fault;
       complete = λ group room. unrecovered_complete (log_state files.log) fault (first.says told) group.sound;
       index = λ group done. absurd (unrecovered_undone fault done);
       packages = ap (λ (f : Files). f.pkg) (first.stands told);

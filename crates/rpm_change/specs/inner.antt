@@ -1,0 +1,2 @@
+-- Laws on the definitions, for the crates above.
+pub mod IndexLaws
