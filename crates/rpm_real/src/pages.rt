@@ -5,50 +5,45 @@ use std::fs;
 use std::os::unix::fs::FileExt;
 
 /// The bytes of a page.
-const SIZE: u64 = 512;
+const SIZE: u64 = 1024;
 
 /// How many pages are held at most. Each has one place, which the next one with that place takes.
 const MOST: usize = 2048;
 
 /// How many reads come before the first page: who reads less holds none.
-const FEW: u32 = 2048;
+const FEW: u32 = 8_000;
 
 /// A page: where it begins in the file, and as many bytes from there as the file had.
 #[derive(Drop)]
 struct Page {
     start: u64,
     filled: usize,
-    room: Vec<u8>,
+    room: [u8; SIZE as usize],
 }
 
 impl Page {
     /// A page that has no bytes.
-    fn new(alloc: Global) -> Page {
+    fn new() -> Page {
         Page {
             start: 0,
             filled: 0,
-            room: Vec::new(alloc),
+            room: [0; SIZE as usize],
         }
     }
 
     /// Makes this the page that begins at a byte. Where it can't be read it has no bytes.
-    fn load(&mut self, file: &fs::File, start: u64) -> Result<(), AllocError> {
+    fn load(&mut self, file: &fs::File, start: u64) {
         self.filled = 0;
-        if self.room.is_empty() {
-            self.room.extend_from_slice(&[0; SIZE as usize])?;
-        }
         if let Ok(count) = file.read_at(&mut self.room, start) {
             self.start = start;
             self.filled = count;
         }
-        Ok(())
     }
 }
 
 /// The pages of a file that were read since it was last written.
 #[derive(Drop)]
 pub struct Pages {
-    alloc: Global,
     reads: u32,
     // All places, or none where no page is held.
     places: Vec<Page>,
@@ -57,7 +52,6 @@ pub struct Pages {
 impl Pages {
     pub fn new(alloc: Global) -> Pages {
         Pages {
-            alloc,
             reads: 0,
             places: Vec::new(alloc),
         }
@@ -72,7 +66,7 @@ impl Pages {
     /// Makes the places of the pages.
     fn make_places(&mut self) -> Result<(), AllocError> {
         for _ in self.places.len()..MOST {
-            self.places.push(Page::new(self.alloc))?;
+            self.places.push(Page::new())?;
         }
         Ok(())
     }
@@ -97,8 +91,8 @@ impl Pages {
             return false;
         };
         let end = within + into.len();
-        if (page.start != start || page.filled < end) && page.load(file, start).is_err() {
-            return false;
+        if page.start != start || page.filled < end {
+            page.load(file, start);
         }
         if page.filled < end {
             return false;
