@@ -17,7 +17,6 @@ HEAD = re.compile(r"^ *((?:abbrev |unfoldable |opaque |pub |record |data )*)([^\
 WORD = re.compile(r"[^\s(){}\[\],;]+")
 BINDERS = (re.compile(r"λ ([^.→=]*)\.(?:\s|$)"), re.compile(r"[({]([^(){}:]+?) :\s"), re.compile(r"\blet (\S+)"))
 FIELD = re.compile(r"^ +(?:pub )?([\w']+) :", re.M)
-MADE = re.compile(r"[{;] *([\w']+) =")
 
 
 def crates():
@@ -79,7 +78,7 @@ def parts(path):
             level, in_head = indent + 2, not text.endswith("where")
         else:
             level = min(level, indent)
-            head = HEAD.match(line) if indent == level else None
+            head = HEAD.match(line) if indent == level and text[0] not in "]})" else None
             if head:
                 marks, name = head.groups()
                 if marks or name not in found:
@@ -96,12 +95,14 @@ def kind_of(marks):
 
 
 def bound(name, lines):
-    """The names that a definition binds itself: parameters, fields, and variables of its clauses."""
+    """The names that a definition binds itself: parameters, variables of its clauses, and the fields of a record that it declares. A field that a
+    value is made with isn't one: another definition may have its name."""
     text = "\n".join(lines)
     clauses = [line.partition(" =")[0] for line in lines if line.strip().startswith(name + " ") and f"{line} ".count(" = ")]
     variables = {word for clause in clauses for word in WORD.findall(clause)[1:] if word[0].islower()}
     groups = [group for binder in BINDERS for group in binder.findall(text)]
-    return {word for group in groups for word in group.split()} | variables | set(FIELD.findall(text)) | set(MADE.findall(text)) | {name}
+    fields = set(FIELD.findall(text)) if "record" in lines[0].split() else set()
+    return {word for group in groups for word in group.split()} | variables | fields | {name}
 
 
 @cache
@@ -119,4 +120,4 @@ def items(path):
 def constructors(path):
     """The name of a type by each of its constructors, for the types of a file."""
     return {found: it.name for it in items(path).values() if it.kind == "data"
-            for line in it.lines[1:] for found in re.findall(r"^ +(?:pub )?([^\s:]+) :", line)}
+            for line in it.lines[1:] for made in re.findall(r"^ +(?:pub )?([^:]+) :", line) for found in made.split()}

@@ -13,7 +13,7 @@ here=$(pwd)
 given=${1-}
 cd "$(dirname "$0")/.."
 switches=crates/rpm_words/src/switch.rt
-texts=crates/rpm_print/src/texts.rt
+texts=crates/rpm_command/src/texts.rt
 missing=0
 room=$(mktemp -d)
 trap 'rm -rf "$room"' EXIT

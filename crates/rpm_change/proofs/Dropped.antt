@@ -1,5 +1,5 @@
 -- The packages that rebuilding drops, by rising number.
-use Rattle.std.proofs.Common.{◌≡◌, ℕ, ◌<◌, ◌≤◌, Ok, true, false, Option, Some, None, is_some, refl, sym, ap, ◌∙◌, arith, nat_eq, Err, Result}
+use Rattle.std.proofs.Common.{◌≡◌, ℕ, ◌<◌, ◌≤◌, Ok, true, false, List, ◌∷◌, Option, Some, None, is_some, refl, sym, ap, ◌∙◌, arith, nat_eq, Err, Result}
 use Rattle.rpm_outside.specs.declared.disk.Disk as disk
 use Rattle.rpm_change.proofs.Vocabulary.{above, apply_all, Bad, by_index, Course, Database, drop_each, dropped_course, eq_by_cmp, Good, Halt, HasCauseAt, idle}
 use Rattle.rpm_change.proofs.Vocabulary.{IsGathering, IsNext, IsOwing, joined_courses, EndStateBy, OnlyReads, looks_run, nat_cmp, next_above, none_is, none_made}
@@ -28,6 +28,13 @@ some_is (Some p) some = refl
 abbrev pub SameAbove : ℕ → finite.FinMap nat_cmp Package → finite.FinMap nat_cmp Package → Type 0
 SameAbove n s t = (k : ℕ) → n < k → finite.get t k ≡ finite.get s k
 
+-- the first package of a list is dropped or kept, and then those behind it
+drop_first : (m : ℕ) (p : Package) (es : List (ℕ × Package)) → drop_each ((m, p) ∷ es) ≡ joined_courses (dropped_course m p) (drop_each es)
+drop_first m (Good bytes) es =
+    let rest = drop_each es in
+    ap (λ n. record { steps = rest.steps; failed = n; changes = rest.changes }) (omega arith)
+drop_first m Bad es = refl
+
 -- the next package of the one is that of the other
 pub drop_next : (s t : finite.FinMap nat_cmp Package) (n m : ℕ) → SameAbove n s t → IsNext (λ k. is_some (finite.get t k)) n (Some m)
     → (finite.get t m ≡ Some (package_or (finite.get t m)))
@@ -36,7 +43,7 @@ drop_next s t n m same next =
     let there = some_is (finite.get t m) next.1 in
     let here : finite.get s m ≡ Some (package_or (finite.get t m)) = sym (same m next.0) ∙ there in
     let step = next_above s n m (package_or (finite.get t m)) next.0 here (λ k a b. sym (same k a) ∙ none_is (finite.get t k) (next.2 k a b)) in
-    (there, ap drop_each step)
+    (there, ap drop_each step ∙ drop_first m (package_or (finite.get t m)) (above m (finite.entries s)))
 
 pub drop_none : (s t : finite.FinMap nat_cmp Package) (n : ℕ) → SameAbove n s t → IsNext (λ k. is_some (finite.get t k)) n None
     → drop_each (above n (finite.entries s)) ≡ idle

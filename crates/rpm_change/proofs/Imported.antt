@@ -2,7 +2,7 @@
 use Rattle.std.proofs.Common.{◌≡◌, ℕ, Bool, true, List, Result, Ok, Err, refl, ap, min}
 use Rattle.rpm_change.proofs.Vocabulary.{Add, add_fault, AddAnswer, at_index, Buffered, by_index, ChangeFault, Course, Database, EndedOnErr}
 use Rattle.rpm_change.proofs.Vocabulary.{Files, FullCause, Halt, halt_of, Header, header, imported_header, left_after}
-use Rattle.rpm_change.proofs.Vocabulary.{limits_counted, LimitsTurn, next, next_package_number, next_store, once, one_refused, other_stop, store_of, RoomCause}
+use Rattle.rpm_change.proofs.Vocabulary.{limits_counted, LimitsTurn, next, next_package_number, next_store, one_refused, other_stop, store_of, RoomCause}
 use Rattle.rpm_change.proofs.Vocabulary.{State, state_in, stop_by, Store, Tally, ProgressInBoth}
 use Rattle.rpm_outside.specs.declared.disk.Disk as disk
 use Rattle.rpm_outside.specs.declared.sink.Sink as sink
@@ -27,6 +27,10 @@ module _ {old new : Files} (i : Bool) (db : Database) (s : State) (w : Store) (k
   add_limits fault.Stopped cause place full = other_stop i s (store_of db) w (imported_header k (header bytes)).changes halt.NoMemory refl
   add_limits others cause place full =
       read_limits others cause.1.own cause.1.read cause (place cause.1.own cause.1.read) (λ is. full is cause.1.own cause.1.read)
+
+-- a course counts as one argument, which fails once
+abbrev pub once : Course → Course
+once c = record { steps = c.steps; failed = min 1 c.failed; changes = c.changes }
 
 -- the command counts once: one argument failed, or none
 abbrev pub counted_once : Result Tally Halt → Result Tally Halt

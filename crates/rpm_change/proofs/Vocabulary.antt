@@ -1,11 +1,13 @@
 -- The words of proofs, from one place.
-pub use Rattle.rpm_change.specs.Adding.{add_file, add_files, as_installed, change_at, GivesInstalled, put_file, replace}
+pub use Rattle.rpm_change.specs.laws.Courses.{add_file, dropped_course, erase_one, import_next, list_course, missing_course, put_found, replacement}
+pub use Rattle.rpm_change.specs.Adding.{add_files, as_installed, GivesInstalled, put_file, replace}
+pub use Rattle.rpm_db.specs.Changes.{change_at}
 pub use Rattle.rpm_effects.specs.Endings.{stop_in}
 pub use Rattle.rpm_effects.specs.Progress.{halt_of}
-pub use Rattle.rpm_change.specs.Erasing.{erase, erase_one, missing_course}
-pub use Rattle.rpm_change.specs.Importing.{list_ending, import_list, import_listed, imported_header, HeaderList, listed_headers, listed_in, listed_next, once, place_fails, with_listed}
+pub use Rattle.rpm_change.specs.Erasing.{erase}
+pub use Rattle.rpm_change.specs.Importing.{import_from, import_list, imported_header, place_fails}
 pub use Rattle.rpm_change.specs.Limits.{is_limit, LimitsTurn}
-pub use Rattle.rpm_change.specs.Rebuilding.{drop_each, dropped_course, dropped_line, rebuild}
+pub use Rattle.rpm_change.specs.Rebuilding.{drop_each, dropped_line, rebuild}
 pub use Rattle.rpm_change.specs.Singles.{GathersOne, HasTarget}
 pub use Rattle.rpm_effects.specs.Steps.{apply_all, bearer, course_of_change, Course, course_of_failure, idle, in_turn, joined_courses, ToErr, whole_step}
 pub use Rattle.rpm_effects.specs.Texts.{absent_line, header_text, refused_line}
@@ -50,7 +52,8 @@ pub use Rattle.rpm_db.specs.laws.StateLaws.{next-state}
 pub use Rattle.rpm_db.specs.declared.change_fault.ChangeFault.{ChangeFault}
 pub use Rattle.rpm_db.specs.declared.netting.RowChange.{RowChange}
 pub use Rattle.rpm_file.specs.Answers.{IsListFault}
-pub use Rattle.rpm_file.specs.List.{BlobAndRest, list_head, size_in, found_of_size, some_found}
+pub use Rattle.rpm_file.specs.List.{BlobAndRest, list_head, size_in}
+pub use Rattle.rpm_file.specs.laws.Lists.{found_of_size, some_found}
 unfoldable pub use Rattle.rpm_file.specs.List.{front_header}
 pub use Rattle.rpm_file.specs.Package.{package_header, read_again}
 pub use Rattle.rpm_file.specs.declared.fault.FileFault.{FileFault}

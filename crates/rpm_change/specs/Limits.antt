@@ -22,19 +22,15 @@ abbrev pub is_spent : State → Change → Bool
 is_spent s (Add bytes) = next s == 4294967295
 is_spent s others = false
 
--- the index that it leaves is too large
-abbrev pub is_large : State → Change → Bool
-is_large s change = nat_lt (2 ^ 28) (units_needed_after s change)
-
 -- what refuses it in this state and this store, the first that does: numbers, generations, places, and units, where the
 -- index is asked
 abbrev pub limit_of_change : Bool → State → Store → Change → Option Halt
 limit_of_change indexed s value change =
+    let needed = units_needed_after s change in
     if is_spent s change then Some halt.NumbersSpent
     else if value.generation == 4294967295 then Some halt.GenerationSpent
     else if is_none (next_store change value) then Some halt.StoreFull
-    else if indexed && is_large s change then Some (halt.IndexFull (units_needed_after s change))
-    else None
+    else if indexed && nat_lt (2 ^ 28) needed then Some (halt.IndexFull needed) else None
 
 -- ---- several changes, one after the other
 
@@ -49,8 +45,8 @@ limit_of_changes indexed s value (change ∷ changes) =
 -- packages as they are
 abbrev pub limit_of_command : Bool → State → Store → List Change → Option Halt
 limit_of_command makes s value changes =
-    if makes && nat_lt (2 ^ 28) (units_for (rows s.packages)) then Some (halt.IndexFull (units_for (rows s.packages)))
-    else limit_of_changes true s value changes
+    let needed = units_for (rows s.packages) in
+    if makes && nat_lt (2 ^ 28) needed then Some (halt.IndexFull needed) else limit_of_changes true s value changes
 
 -- the store after them, and None where one of them finds no place
 abbrev pub next_stores : List Change → Store → Option Store

@@ -1,9 +1,12 @@
 -- How a course went on a disk and a database: how far, which limit stopped it, and what it left.
 use Rattle.std.specs.Prelude.{◌≡◌, ℕ, List, ◌++◌, true, false, IsTrue, IfOk, OnOk, Result, Ok, Err}
 use Rattle.rpm_outside.specs.declared.disk.Disk as disk
-use Rattle.rpm_outside.specs.Files.{Files, Units}
+use Rattle.rpm_outside.specs.Files.{Files, Units, unit_at}
 use Rattle.rpm_outside.specs.Frame.{DiskFault}
+use Rattle.rpm_hindex.specs.Refusals.{IsBadFor}
 use Rattle.rpm_hindex.specs.Rows.{Row}
+use Rattle.rpm_hindex.specs.State.{buckets_of}
+use Rattle.rpm_hindex.specs.declared.faults.PrepareFault.TheVariants as prepare
 use Rattle.rpm_db.specs.Changed.{IsReady}
 use Rattle.rpm_db.specs.Changes.{Change}
 use Rattle.rpm_db.specs.Database.{Database, is_indexed}
@@ -12,9 +15,7 @@ use Rattle.rpm_db.specs.Database.{store_of}
 use Rattle.rpm_db.specs.Gathering.{IsGathering, OwesOn, due}
 use Rattle.rpm_db.specs.Lawful.{IsWholeIndex}
 use Rattle.rpm_db.specs.Reaches.{Gains}
-use Rattle.rpm_db.specs.Refusals.{BadCause}
 use Rattle.rpm_db.specs.State.{State}
-use Rattle.rpm_db.specs.declared.change_fault.ChangeFault.TheVariants as fault
 use Rattle.rpm_db.specs.declared.netting.RowChange.{RowChange}
 use Rattle.rpm_db.specs.Runs.{SameLog}
 use Rattle.rpm_effects.specs.declared.tally.Tally.{Tally}
@@ -36,7 +37,7 @@ WholeTurn idx (Err others) = Unit {0}
 -- a unit of an index is that of the first fault of a chain, or is 1, which counts less than some of the rows of the
 -- chains
 abbrev pub IsBlamed : Units → ℕ → Type 0
-IsBlamed idx unit = (drops : List Row) × BadCause drops idx (fault.BadIndex unit)
+IsBlamed idx unit = (drops : List Row) × IsBadFor drops (buckets_of (unit_at idx 0)) idx (prepare.BadIndex unit)
 
 -- a command that is stopped for a bad index names such a unit
 abbrev pub BadTurn : Units → Result Tally Halt → Type 0

@@ -2,11 +2,11 @@
 use Rattle.std.specs.Prelude.{◌≡◌, ℕ, ◌+◌, ◌≤◌, max, List, [], ◌∷◌, ◌++◌, length, Bool, true, unwrap_or}
 use Rattle.rpm_outside.specs.Files.{Files}
 use Rattle.rpm_hindex.specs.Rows.{Row}
-use Rattle.rpm_hindex.specs.Sizes.{units_for}
+use Rattle.rpm_hindex.specs.Sizes.{live_of, units_for}
 use Rattle.rpm_pkgdb.specs.Reaches.{store_end}
 use Rattle.rpm_pkgdb.specs.Store.{Store}
 use Rattle.rpm_db.specs.Changes.{Change, apply}
-use Rattle.rpm_db.specs.Reaches.{added_units, added_rows, units_needed_after}
+use Rattle.rpm_db.specs.Reaches.{added_rows, units_needed_after}
 use Rattle.rpm_db.specs.Room.{next_store}
 use Rattle.rpm_db.specs.Rows.{rows}
 use Rattle.rpm_db.specs.State.{State}
@@ -15,14 +15,13 @@ use Rattle.rpm_db.specs.State.{State}
 abbrev pub pkg_reach : ℕ → Store → List Change → ℕ
 pkg_reach units value [] = units
 pkg_reach units value (change ∷ changes) =
-    pkg_reach (max units (store_end (unwrap_or (next_store change value) value)))
-    (unwrap_or (next_store change value) value) changes
+    let next = unwrap_or (next_store change value) value in pkg_reach (max units (store_end next)) next changes
 
 -- Hindex.db gets the records that a change adds after what it has, or is made from scratch
 abbrev pub idx_reach : ℕ → State → List Change → ℕ
 idx_reach units s [] = units
 idx_reach units s (change ∷ changes) =
-    idx_reach (max (units + added_units s change) (units_needed_after s change)) (apply change s) changes
+    idx_reach (max (units + live_of (added_rows s change)) (units_needed_after s change)) (apply change s) changes
 
 -- the rows that these changes bring into the index, from a state on
 abbrev pub all_added : State → List Change → List Row

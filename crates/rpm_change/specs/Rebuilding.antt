@@ -11,15 +11,12 @@ use Rattle.rpm_effects.specs.Steps.{Course, ToOut, bearer, idle, joined_courses}
 unfoldable pub dropped_line : ℕ → List ℕ
 dropped_line n = codes "package " ++ decimal n ++ codes ": dropped\n"
 
--- a Bad package is dropped with a line, for which nothing fails
-abbrev pub dropped_course : ℕ → Package → Course
-dropped_course n (Good bytes) = idle
-dropped_course n Bad = record { steps = ToOut (bearer 0 n) (dropped_line n) ∷ []; failed = 0; changes = Erase n ∷ [] }
-
--- the course that drops each bad package of a list
+-- each Bad package of a list is dropped with a line, for which nothing fails
 abbrev pub drop_each : List (ℕ × Package) → Course
 drop_each [] = idle
-drop_each (e ∷ es) = joined_courses (dropped_course e.0 e.1) (drop_each es)
+drop_each ((n, Good bytes) ∷ es) = drop_each es
+drop_each ((n, Bad) ∷ es) = joined_courses
+    (record { steps = ToOut (bearer 0 n) (dropped_line n) ∷ []; failed = 0; changes = Erase n ∷ [] }) (drop_each es)
 
 -- a rebuild drops the Bad packages by rising number, from 1 on: no package has the number 0
 abbrev pub rebuild : State → Course

@@ -10,7 +10,8 @@ use Rattle.rpm_effects.specs.declared.tally.Halt.{Halt}
 use Rattle.rpm_effects.specs.declared.tally.Halt.TheVariants as halt
 use Rattle.rpm_change.specs.declared.turn.Turn.{Turn}
 use Rattle.rpm_effects.specs.Steps.{Course, idle}
-use Rattle.rpm_change.specs.Importing.{HeaderList, place_fails, imported_header, import_from}
+use Rattle.rpm_change.specs.Importing.{place_fails, imported_header}
+use Rattle.rpm_change.specs.laws.Courses.{list_course}
 use Rattle.rpm_change.specs.Places.{list_text}
 
 -- a header at place k of a list that may have so many
@@ -31,9 +32,9 @@ ListEnd most k (Ok (Some found)) is_last left = (is_last ≡ nat_lt most k) × (
 ListEnd most k (Err fault) is_last left = is_last ≡ true
 
 -- what is left of a course, where the list has ended or goes on
-abbrev pub from_place : Bool → ℕ → ℕ → HeaderList → Course
-from_place true most k l = idle
-from_place false most k l = import_from most k l.blobs l.fault
+abbrev pub from_place : Bool → ℕ → ℕ → List ℕ → Course
+from_place true most k bytes = idle
+from_place false most k bytes = list_course most k bytes
 
 -- what a turn came to
 abbrev pub tally_of : Result Turn Halt → Result Tally Halt

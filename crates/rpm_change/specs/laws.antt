@@ -1,4 +1,5 @@
 -- What crates above cite, and what it is proved by.
+pub mod Courses
 pub mod Going
 pub mod Handing
 pub mod Leaving

@@ -1,7 +1,7 @@
 //! Importing a list of headers.
 
 ghost use Rattle.std.specs.Prelude.{◌≡◌, ◌^◌, ◌<◌, codes, IsTrue, Err, IfErr};
-ghost use Rattle.rpm_change.specs.Prelude.{bytes_at, EndedOnErr, Hand, KeepsShelf, import_list, import_listed, IsGathering, IsOfImporting, IsReady, bytes_left, listed_headers, max_headers, ProgressInBoth, ProgressOwing};
+ghost use Rattle.rpm_change.specs.Prelude.{bytes_at, EndedOnErr, Hand, KeepsShelf, import_list, IsGathering, IsOfImporting, IsReady, bytes_left, list_course, ProgressInBoth, ProgressOwing};
 
 use crate::halting::halt_of;
 use crate::turn::import_next;
@@ -27,7 +27,7 @@ fn import_all<D: Disk, S: Shelf, E: Sink + Drop>(
     requires gathering { IsGathering D.Disk disk.old db.old batch.old }
     ensures went { ProgressOwing D.Disk (IsTrue D.tells × IsTrue S.tells) disk.old disk.new db.old db.new batch.old
         batch.new result (EndedOnErr E.Sink err.old err.new)
-        (import_listed most (listed_headers (bytes_left (S.rest shelf.old)))) }
+        (list_course most 1 (bytes_left (S.rest shelf.old))) }
     ensures kinds { IfErr result IsOfImporting }
     ensures shelf { KeepsShelf S.Shelf (result ≡ Err Halt.ShelfFault) shelf.old shelf.new }
     ensures err { Hand E.Sink (result ≡ Err Halt.ErrFault) err.old err.new }
@@ -117,7 +117,7 @@ pub fn import_list<D: Disk, S: Shelf, E: Sink + Drop>(
 ) -> Result<Tally, Halt>
     requires ready { IsReady D.Disk disk.old db.old }
     ensures went { ProgressInBoth D.Disk (IsTrue D.tells × IsTrue S.tells) disk.old disk.new db.old db.new result
-        (EndedOnErr E.Sink err.old err.new) (import_list max_headers (bytes_at (S.paths shelf.old) (codes "-"))) }
+        (EndedOnErr E.Sink err.old err.new) (import_list MAX_HEADERS (bytes_at (S.paths shelf.old) (codes "-"))) }
     ensures kinds { IfErr result IsOfImporting }
     ensures shelf { KeepsShelf S.Shelf (result ≡ Err Halt.ShelfFault) shelf.old shelf.new }
     ensures err { Hand E.Sink (result ≡ Err Halt.ErrFault) err.old err.new }

@@ -10,10 +10,10 @@ use Rattle.std.specs.declared.cmp.Ordering.TheVariants.{Equal, Greater, Less}
 use Rattle.std.proofs.lemmas.Bool.{cases_Bool}
 use Rattle.std.proofs.lemmas.Cmp.{lists_total, nat_cmp_total, nat_list_cmp_total, on_total, ranked, then_total, tied_itself}
 use Rattle.std.proofs.lemmas.List.Sorted.{ranks_by, searchable_from_sorted, sorted_far}
-use Rattle.rpm_version.specs.Evr.{epoch_number, evr, EvrParts}
-use Rattle.rpm_version.specs.Evr.{evr_order, release_order}
+use Rattle.rpm_version.specs.Evr.{evr, EvrParts, evr_order, release_order}
 use Rattle.rpm_version.specs.Order.{rank, segment_order, version_order}
-use Rattle.rpm_version.specs.Range.{has_equal, has_greater, has_less, is_open}
+use Rattle.rpm_version.specs.Range.{is_open}
+use Rattle.rpm_version.specs.laws.Senses.{epoch_number, has_equal, has_greater, has_less}
 use Rattle.rpm_version.specs.Segment.{Caret, Digits, End, Letters, Segment, segments, Tilde}
 use Rattle.rpm_check.specs.declared.offers.Offer.{Offer}
 use Rattle.rpm_check.specs.inner.Kinds.{digit, offer_kind, offer_order}
@@ -134,106 +134,42 @@ pub record SaysSame (a b : Offer) : Type 0 where
   pub any : is_open a.flags a.version.items ≡ is_open b.flags b.version.items
   pub released : is_some (evr a.version.items).release ≡ is_some (evr b.version.items).release
 
+-- two sums that begin with a digit are the same where the digits are, and the rests
+last_digit : (a b : Bool) (m n : ℕ) → digit a + 2 * m ≡ digit b + 2 * n → (a ≡ b) × (m ≡ n)
+last_digit a b m n same = (
+  digit_tells a b (omega (arith, same, digit_low a, digit_low b)),
+  omega (arith, same, digit_low a, digit_low b),
+)
+
 module _ (a b c d e : Bool) (a' b' c' d' e' : Bool)
     (same : digit a + 2 * digit b + 4 * digit c + 8 * digit d + 16 * digit e ≡ digit a' + 2 * digit b' + 4 * digit c' + 8 * digit d' + 16 * digit e') where
-  first_digit : a ≡ a'
-  first_digit = digit_tells a a'
-      (omega (
-        arith,
-        same,
-        digit_low a,
-        digit_low b,
-        digit_low c,
-        digit_low d,
-        digit_low e,
-        digit_low a',
-        digit_low b',
-        digit_low c',
-        digit_low d',
-        digit_low e',
-      ))
+  first : (a ≡ a') × (digit b + 2 * digit c + 4 * digit d + 8 * digit e ≡ digit b' + 2 * digit c' + 4 * digit d' + 8 * digit e')
+  first =
+      last_digit a a' (digit b + 2 * digit c + 4 * digit d + 8 * digit e) (digit b' + 2 * digit c' + 4 * digit d' + 8 * digit e')
+      (omega (arith, same))
 
-  second_digit : b ≡ b'
-  second_digit = digit_tells b b'
-      (omega (
-        arith,
-        same,
-        digit_low a,
-        digit_low b,
-        digit_low c,
-        digit_low d,
-        digit_low e,
-        digit_low a',
-        digit_low b',
-        digit_low c',
-        digit_low d',
-        digit_low e',
-      ))
+  second : (b ≡ b') × (digit c + 2 * digit d + 4 * digit e ≡ digit c' + 2 * digit d' + 4 * digit e')
+  second = last_digit b b' (digit c + 2 * digit d + 4 * digit e) (digit c' + 2 * digit d' + 4 * digit e') (omega (arith, first.1))
 
-  third_digit : c ≡ c'
-  third_digit = digit_tells c c'
-      (omega (
-        arith,
-        same,
-        digit_low a,
-        digit_low b,
-        digit_low c,
-        digit_low d,
-        digit_low e,
-        digit_low a',
-        digit_low b',
-        digit_low c',
-        digit_low d',
-        digit_low e',
-      ))
+  third : (c ≡ c') × (digit d + 2 * digit e ≡ digit d' + 2 * digit e')
+  third = last_digit c c' (digit d + 2 * digit e) (digit d' + 2 * digit e') (omega (arith, second.1))
 
-  fourth_digit : d ≡ d'
-  fourth_digit = digit_tells d d'
-      (omega (
-        arith,
-        same,
-        digit_low a,
-        digit_low b,
-        digit_low c,
-        digit_low d,
-        digit_low e,
-        digit_low a',
-        digit_low b',
-        digit_low c',
-        digit_low d',
-        digit_low e',
-      ))
-
-  fifth_digit : e ≡ e'
-  fifth_digit = digit_tells e e'
-      (omega (
-        arith,
-        same,
-        digit_low a,
-        digit_low b,
-        digit_low c,
-        digit_low d,
-        digit_low e,
-        digit_low a',
-        digit_low b',
-        digit_low c',
-        digit_low d',
-        digit_low e',
-      ))
+  fourth : (d ≡ d') × (digit e ≡ digit e')
+  fourth = last_digit d d' (digit e) (digit e') third.1
 
 pub says_same : (a b : Offer) → offer_kind a ≡ offer_kind b → SaysSame a b
 unfolding offer_kind is_open
 says_same a b same =
-    let less = first_digit _ _ _ _ _ _ _ _ _ _ same in
-    let greater = second_digit _ _ _ _ _ _ _ _ _ _ same in
-    let equal = third_digit _ _ _ _ _ _ _ _ _ _ same in
-    let empty = fourth_digit _ _ _ _ _ _ _ _ _ _ same in
+    let less = (first _ _ _ _ _ _ _ _ _ _ same).0 in
+    let greater = (second _ _ _ _ _ _ _ _ _ _ same).0 in
+    let equal = (third _ _ _ _ _ _ _ _ _ _ same).0 in
+    let rest = fourth _ _ _ _ _ _ _ _ _ _ same in
     record {
       less = less;
       greater = greater;
       equal = equal;
-      any = λ i. not (less i || greater i || equal i) || empty i;
-      released = fifth_digit _ _ _ _ _ _ _ _ _ _ same;
+      any = λ i. not (less i || greater i || equal i) || rest.0 i;
+      released = digit_tells _ _ rest.1;
     }
 
 -- ---- the order of offers

@@ -10,8 +10,8 @@ use Rattle.std.proofs.lemmas.List.{get_or-take, length-take-le}
 use Rattle.std.proofs.lemmas.List.Elements.{All-cons}
 use Rattle.std.proofs.lemmas.List.Folds.{list_any-append, list_any_none}
 use Rattle.rpm_version.specs.Evr.{evr, evr_order, EvrParts}
-use Rattle.rpm_version.specs.Range.{has_equal, has_greater, has_less, is_open}
-use Rattle.rpm_version.specs.Range.{equal_but_release, overlaps, ranges_meet, share_sense}
+use Rattle.rpm_version.specs.Range.{equal_but_release, is_open, overlaps, share_sense}
+use Rattle.rpm_version.specs.laws.Senses.{has_equal, has_greater, has_less, ranges_meet}
 use Rattle.rpm_check.specs.inner.Kinds.{offer_kind}
 use Rattle.rpm_check.proofs.Vocabulary.{is_of_standing, is_hit, is_in, IsRunOf, IsSorted, Offer, offer_order, Ordering, range_in}
 use Rattle.rpm_check.proofs.Ranking.{kinds_rise, says_same, SaysSame, stands_up, versions_up}
@@ -34,7 +34,6 @@ module _ (a b : Offer) (says : SaysSame a b) (flags : ℕ) (version : List ℕ) 
   shared = λ i. (says.equal i && has_equal flags) || (says.less i && has_less flags) || (says.greater i && has_greater flags)
 
   met_alike : (o : Ordering) → ranges_meet o a.flags (evr a.version.items) flags (evr version) ≡ ranges_meet o b.flags (evr b.version.items) flags (evr version)
-  unfolding ranges_meet
   met_alike Less = λ i. says.greater i || has_less flags
   met_alike Greater = λ i. says.less i || has_greater flags
   met_alike Equal = λ i. shared i

@@ -1,14 +1,18 @@
 -- The words of proofs, from one place.
 pub use Rattle.rpm_check.specs.Answers.{OnlyReadsBoth, is_broken_index, is_index_fault, IsBroken, IsFaultOfSome}
-pub use Rattle.rpm_check.specs.Edges.{edges_from, graph_of, HasEdgesOf, is_edge_between, is_good, needs_of}
+pub use Rattle.rpm_check.specs.Edges.{graph_of, HasEdgesOf, is_edge_between}
+pub use Rattle.rpm_check.specs.inner.Parts.{edges_from, is_good, needs_of}
 unfoldable pub use Rattle.rpm_check.specs.Edges.{all_edges, givers, good_numbers, is_edge}
 pub use Rattle.rpm_check.specs.Frame.{CheckQuestion}
 pub use Rattle.rpm_db.specs.Asked.{IsAskable}
 pub use Rattle.rpm_db.specs.Frame.{IsStoreKept, IsIndexKept}
-pub use Rattle.rpm_select.specs.Providing.{answers, gives, is_file_of, provided_ranges}
-pub use Rattle.rpm_check.specs.Unmet.{is_above_pair, IsNextUnmet, lacks, package_meets, read_gives, requirements}
-pub use Rattle.rpm_check.specs.Unmet.{unmet_in, unmet_of}
-pub use Rattle.rpm_check.specs.Unmet.{unmet_read}
+pub use Rattle.rpm_select.specs.Providing.{answers, gives}
+pub use Rattle.rpm_select.specs.laws.Parts.{is_file_of, provided_ranges}
+pub use Rattle.rpm_check.specs.Unmet.{is_above_pair, IsNextUnmet, lacks, package_meets, requirements}
+pub use Rattle.rpm_check.specs.inner.Parts.{read_gives}
+pub use Rattle.rpm_check.specs.Unmet.{unmet_in}
+pub use Rattle.rpm_check.specs.inner.Parts.{unmet_of}
+pub use Rattle.rpm_check.specs.inner.Parts.{unmet_read}
 unfoldable pub use Rattle.rpm_check.specs.Unmet.{is_met, unmet, unmet_after}
 pub use Rattle.rpm_check.specs.declared.faults.CheckFault.{CheckFault}
 pub use Rattle.rpm_check.specs.declared.faults.CheckFault.TheVariants.{DiskFault, NoMemory}
@@ -37,7 +41,8 @@ pub use Rattle.rpm_db.specs.Database.{store_of}
 pub use Rattle.rpm_db.specs.laws.FromOne.{from_one}
 pub use Rattle.rpm_db.specs.laws.Own.{header-own}
 pub use Rattle.rpm_db.specs.laws.PackageLaws.{is_there}
-pub use Rattle.rpm_db.specs.State.{above, Bad, Good, Package, package_of, packages, read_as}
+pub use Rattle.rpm_db.specs.State.{above, Bad, Good, Package, package_of, packages}
+pub use Rattle.rpm_db.specs.laws.Parts.{read_as}
 pub use Rattle.rpm_graph.specs.Networks.{edge, HasEdge, IsEdgeBefore, IsNumberRising, Joins, Network}
 pub use Rattle.rpm_graph.specs.declared.graph.Edge.{Edge}
 pub use Rattle.rpm_header.specs.Header.{Header, header}
@@ -51,7 +56,8 @@ pub use Rattle.rpm_select.specs.Frame.{AsksIndex, AsksPackages}
 pub use Rattle.rpm_select.specs.Picks.{entry_in, NextIs, NextNumberIs, number_in}
 pub use Rattle.rpm_select.specs.Reach.{HasIndexRows, is_in, IsFaultOfOne, Reach, Serves}
 pub use Rattle.rpm_select.specs.Recents.{Recalls}
-pub use Rattle.rpm_select.specs.Selections.{is_picked, takes_read}
+pub use Rattle.rpm_select.specs.Selections.{is_picked}
+pub use Rattle.rpm_select.specs.laws.Parts.{takes_read}
 unfoldable pub use Rattle.rpm_select.specs.Selections.{picks, takes_header}
 pub use Rattle.rpm_select.specs.declared.picked.Picked.{Picked}
 pub use Rattle.rpm_select.specs.declared.picked.PickFault.{PickFault}
@@ -60,7 +66,7 @@ pub use Rattle.rpm_select.specs.declared.selection.Selection.TheVariants.{Provid
 pub use Rattle.rpm_select.specs.laws.Among.{among, not_among}
 pub use Rattle.rpm_select.specs.laws.Keyed.{or_cases, or_left, or_right}
 pub use Rattle.rpm_select.specs.laws.Rising.{AreAbove, next_picked, picks_from_one, Rises, rises, same_members}
-pub use Rattle.rpm_tags.specs.Numbers.{REQUIREFLAGS, REQUIRENAME, REQUIREVERSION}
+pub use Rattle.rpm_tags.specs.declared.numbers.TheConstants.{REQUIREFLAGS, REQUIRENAME, REQUIREVERSION}
 pub use Rattle.rpm_tags.specs.Value.{numbers_in, texts_in}
 pub use Rattle.rpm_tags.specs.Wanted.{beside, has_file, list_or_empty, Need}
 unfoldable pub use Rattle.rpm_tags.specs.Wanted.{dependencies}

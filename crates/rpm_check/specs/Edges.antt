@@ -1,13 +1,10 @@
 -- Which packages require which.
 use Rattle.std.specs.Prelude.{◌≡◌, ◌↔◌, ℕ, List, [], map, filter, Bool, true, false, not, ◌&&◌, ◌==◌, Option, Some}
-use Rattle.std.specs.Prelude.{Result, Ok, Err}
 use Rattle.std.specs.List.{list_any, flat_map}
 use Rattle.std.specs.Ordering.{nat_cmp}
 use Rattle.std.specs.FinMap.{FinMap, entries, get}
-use Rattle.rpm_header.specs.declared.form.HeaderFault.{HeaderFault}
-use Rattle.rpm_header.specs.Header.{Header, header}
 use Rattle.rpm_tags.specs.Wanted.{Need}
-use Rattle.rpm_db.specs.State.{Package, Good, Bad}
+use Rattle.rpm_db.specs.State.{Package, Good, Bad, package_or}
 use Rattle.rpm_graph.specs.declared.graph.Edge.{Edge}
 use Rattle.rpm_graph.specs.Networks.{Network, HasEdge, edge}
 use Rattle.rpm_check.specs.Unmet.{requirements, package_meets}
@@ -18,19 +15,10 @@ givers packages need = map (λ e. e.0) (filter (package_meets need) (entries pac
 
 -- ---- one edge
 
--- the requirements of bytes that may be no header
-abbrev pub needs_read : Result Header HeaderFault → List Need
-needs_read (Ok h) = requirements h
-needs_read (Err fault) = []
-
--- the requirements of a package; none where it can't be read
-abbrev pub needs_of : Package → List Need
-needs_of (Good bytes) = needs_read (header bytes)
-needs_of Bad = []
-
--- a requirement of one package is met by another alone
+-- A requirement of one package, which has none where it can't be read, is met by another alone.
 abbrev pub is_edge_between : ℕ → Option Package → ℕ → Option Package → Bool
-is_edge_between n (Some p) m (Some q) = not (n == m) && list_any (λ need. package_meets need (m, q)) (needs_of p)
+is_edge_between n (Some p) m (Some q) =
+    not (n == m) && list_any (λ need. package_meets need (m, q)) (package_or requirements p [])
 is_edge_between n p m q = false
 
 -- n requires what m gives, and they are different
@@ -39,22 +27,14 @@ is_edge packages n m = is_edge_between n (get packages n) m (get packages m)
 
 -- ---- all of them
 
--- a package can be read
-abbrev pub is_good : Package → Bool
-is_good (Good bytes) = true
-is_good Bad = false
-
--- the numbers of the packages that can be read, rising
+-- The numbers of the packages that can be read, rising.
 unfoldable pub good_numbers : FinMap nat_cmp Package → List ℕ
-good_numbers packages = map (λ e. e.0) (filter (λ e. is_good e.1) (entries packages))
+good_numbers packages = map (λ e. e.0) (filter (λ e. elim e.1 [ Good bytes ↦ true | Bad ↦ false ]) (entries packages))
 
--- a package has edges from it, by rising end
-abbrev pub edges_from : FinMap nat_cmp Package → ℕ → List Edge
-edges_from packages n = map (edge n) (filter (is_edge packages n) (good_numbers packages))
-
--- a graph has the edges of all packages, by rising beginning, and then by rising end
+-- A graph has the edges of all packages, by rising beginning, and then by rising end.
 unfoldable pub all_edges : FinMap nat_cmp Package → List Edge
-all_edges packages = flat_map (λ e. edges_from packages e.0) (entries packages)
+all_edges packages = flat_map (λ e.
+    map (edge e.0) (filter (is_edge packages e.0) (good_numbers packages))) (entries packages)
 
 -- the numbers and the edges together
 abbrev pub graph_of : FinMap nat_cmp Package → Network

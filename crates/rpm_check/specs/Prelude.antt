@@ -9,7 +9,8 @@ pub use Rattle.rpm_select.specs.Picks.{entry_in}
 pub use Rattle.rpm_select.specs.Reach.{is_in}
 pub use Rattle.rpm_select.specs.Recents.{Recalls}
 pub use Rattle.rpm_select.specs.Selections.{picks}
-pub use Rattle.rpm_check.specs.Edges.{HasEdgesOf, all_edges, edges_from, givers, good_numbers, graph_of}
+pub use Rattle.rpm_check.specs.Edges.{HasEdgesOf, all_edges, givers, good_numbers, graph_of}
+pub use Rattle.rpm_check.specs.inner.Parts.{edges_from}
 pub use Rattle.rpm_check.specs.Frame.{CheckQuestion}
 pub use Rattle.rpm_select.specs.Frame.{HasKeptRows}
 pub use Rattle.rpm_db.specs.Asked.{IsAskable}

@@ -1,14 +1,13 @@
 -- Which requirements no package meets.
 use Rattle.std.specs.Prelude.{◌≡◌, ℕ, List, [], ◌∷◌, map, filter, length, codes, Bool, false, not, ◌&&◌, ◌||◌, ◌==◌}
-use Rattle.std.specs.Prelude.{nat_eq, nat_lt, Option, Some, None, Result, Ok, Err}
+use Rattle.std.specs.Prelude.{nat_eq, nat_lt, Option, Some, None}
 use Rattle.std.specs.List.{list_any, flat_map, zip, range_with_len, starts_with}
 use Rattle.std.specs.Ordering.{nat_cmp}
 use Rattle.std.specs.FinMap.{FinMap, entries}
-use Rattle.rpm_header.specs.declared.form.HeaderFault.{HeaderFault}
-use Rattle.rpm_header.specs.Header.{Header, header}
-use Rattle.rpm_tags.specs.Numbers.{REQUIRENAME, REQUIREFLAGS, REQUIREVERSION}
+use Rattle.rpm_header.specs.Header.{Header}
+use Rattle.rpm_tags.specs.declared.numbers.TheConstants.{REQUIRENAME, REQUIREFLAGS, REQUIREVERSION}
 use Rattle.rpm_tags.specs.Wanted.{Need, dependencies}
-use Rattle.rpm_db.specs.State.{Package, Good, Bad}
+use Rattle.rpm_db.specs.State.{Package, package_or}
 use Rattle.rpm_select.specs.Providing.{gives}
 use Rattle.rpm_check.specs.declared.list.Unmet.{Unmet}
 
@@ -20,15 +19,9 @@ requirements h = dependencies (record { names = REQUIRENAME; flags = REQUIREFLAG
 
 -- ---- one requirement and all packages
 
--- bytes give what is needed when they are a header that gives it
-abbrev pub read_gives : Need → Result Header HeaderFault → Bool
-read_gives need (Ok h) = gives need h
-read_gives need (Err fault) = false
-
--- a package that can't be read gives nothing
+-- A package gives what its header gives; one that can't be read gives nothing.
 abbrev pub package_meets : Need → ℕ × Package → Bool
-package_meets need (n, Good bytes) = read_gives need (header bytes)
-package_meets need (n, Bad) = false
+package_meets need (n, p) = package_or (gives need) p false
 
 -- some package meets a requirement
 unfoldable pub is_met : FinMap nat_cmp Package → Need → Bool
@@ -44,31 +37,16 @@ is_passed_over name = starts_with nat_eq name (codes "rpmlib(") || starts_with n
 abbrev pub lacks : FinMap nat_cmp Package → Need → Bool
 lacks packages need = not (is_passed_over need.name) && not (is_met packages need)
 
--- each with its place, from this one on
-abbrev pub placed_needs : List Need → ℕ → List (Need × ℕ)
-placed_needs needs place = zip needs (range_with_len place (length needs))
-
--- the number of its package and its place there
-abbrev pub at_place : ℕ → Need × ℕ → Unmet
-at_place n e = record { number = n; place = e.1 }
-
--- a package's requirements, from this place on, that are lacking
+-- A package's requirements, of which the first has this place, that are lacking: each as the package's number and its
+-- place.
 abbrev pub unmet_in : (Need → Bool) → ℕ → List Need → ℕ → List Unmet
-unmet_in is_lacking n needs place = map (at_place n) (filter (λ e. is_lacking e.0) (placed_needs needs place))
+unmet_in is_lacking n needs place = map (λ e. record { number = n; place = e.1 })
+    (filter (λ e. is_lacking e.0) (zip needs (range_with_len place (length needs))))
 
--- a package's bytes have these unmet requirements: none where they are no header
-abbrev pub unmet_read : (Need → Bool) → ℕ → Result Header HeaderFault → List Unmet
-unmet_read is_lacking n (Ok h) = unmet_in is_lacking n (requirements h) 0
-unmet_read is_lacking n (Err fault) = []
-
--- a package has these unmet requirements: none where it is Bad
-abbrev pub unmet_of : (Need → Bool) → ℕ × Package → List Unmet
-unmet_of is_lacking (n, Good bytes) = unmet_read is_lacking n (header bytes)
-unmet_of is_lacking (n, Bad) = []
-
--- a database has these unmet requirements, by rising number and place
+-- A database has these unmet requirements, by rising number and place: none of packages that can't be read.
 unfoldable pub unmet : FinMap nat_cmp Package → List Unmet
-unmet packages = flat_map (unmet_of (lacks packages)) (entries packages)
+unmet packages = flat_map (λ e.
+    package_or (λ h. unmet_in (lacks packages) e.0 (requirements h) 0) e.1 []) (entries packages)
 
 -- ---- one after the other
 

@@ -7,6 +7,7 @@ pub mod Kinds
 pub mod Memos
 pub mod Nodes
 pub mod Offers
+pub mod Parts
 pub mod Picking
 pub mod Rounds
 pub mod Runs

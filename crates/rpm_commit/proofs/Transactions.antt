@@ -231,10 +231,10 @@ module _ {D : Type 0} (d : disk.Ghosts D) (words : List (List ℕ)) (task : Task
         images = transaction_images why.DiskFault refl;
       };
       limits = by_index (λ indexed may. if_ok (store r.pkg) (λ t stored. tt));
-      fault = λ faulted. inr (record {
-        told = record { value = s; undamaged = is; is = on.2.steps };
-        limits = by_index (λ indexed may. ok_is _ (store r.pkg) s is (none indexed may));
-      });
+      fault = λ faulted. inr (
+        record { value = s; undamaged = is; is = on.2.steps },
+        by_index (λ indexed may. ok_is _ (store r.pkg) s is (none indexed may)),
+      );
       log = by_index (λ indexed may. tt);
     }
 

@@ -3,8 +3,10 @@ pub use Rattle.rpm_change.specs.Adding.{add_files, IsOfPutting, replace}
 pub use Rattle.rpm_effects.specs.Progress.{Done, CourseProgress, Outputs, Through}
 pub use Rattle.rpm_change.specs.Erasing.{IsOfErasing, erase}
 pub use Rattle.rpm_effects.specs.Hands.{Hand}
-pub use Rattle.rpm_change.specs.Importing.{import_list, max_headers}
-pub use Rattle.rpm_change.specs.Limits.{limit_of_command, limit_of_changes, is_large, is_spent, LimitsTurn}
+pub use Rattle.rpm_change.specs.Importing.{import_list}
+pub use Rattle.rpm_commit.specs.Tasks.{max_headers}
+pub use Rattle.rpm_change.specs.Limits.{limit_of_command, limit_of_changes, is_spent, LimitsTurn}
+pub use Rattle.rpm_change.specs.laws.Single.{is_large}
 pub use Rattle.rpm_change.specs.Limits.{next_stores, limit_of_change, MeetsLimit}
 pub use Rattle.rpm_db.specs.Reaches.{units_needed_after}
 pub use Rattle.rpm_change.specs.Reaches.{idx_reach, pkg_reach, ChangesReachAnew}
@@ -19,15 +21,20 @@ pub use Rattle.rpm_change.specs.inner.IndexLaws.{at_index, by_index}
 pub use Rattle.rpm_change.specs.laws.LimitLaws.{makes_small, never_bad_made}
 pub use Rattle.rpm_change.specs.laws.ReachLaws.{idx_more, pkg_more, reached_anew, reached_none}
 pub use Rattle.rpm_change.specs.laws.Stores.{stores_paged}
-pub use Rattle.rpm_commit.specs.Changing.{after, AllRowsFit, BadBy, ChangeProgress, ChangeProgressOnLog, ChangeProgressOn, ChangeProgressOnStore, EmptyBy, HasState, IsDatabaseMade, is_rebuilt}
-pub use Rattle.rpm_commit.specs.Changing.{HasChanges, IsAllOrNone, RowsFit, IsLawfulAndSameOr}
+pub use Rattle.rpm_commit.specs.Changing.{after, AllRowsFit, BadBy, ChangeProgress, EmptyBy, HasState, IsDatabaseMade}
+pub use Rattle.rpm_commit.specs.laws.Words.{ChangeProgressOnLog, ChangeProgressOn, ChangeProgressOnStore, is_rebuilt}
+pub use Rattle.rpm_commit.specs.Changing.{HasChanges, RowsFit}
+pub use Rattle.rpm_commit.specs.laws.Words.{IsAllOrNone, IsLawfulAndSameOr}
 pub use Rattle.rpm_effects.specs.Endings.{unless_starved, why_of_load, why_of_recover, why_of_halt}
 pub use Rattle.rpm_commit.specs.Answers.{AnswersChange}
 pub use Rattle.rpm_commit.specs.Lawful.{AreLawfulDatabases, HasUsableIndex, IsLawfulDatabase, MayBegin}
-pub use Rattle.rpm_commit.specs.Limits.{command_limit, LimitsBy, LogIs, LogOn, MeetsFirst}
-pub use Rattle.rpm_commit.specs.Reaches.{begun_store, HasStore, LengthsOn, ReachesBy, ReachesOn, StoresOn}
+pub use Rattle.rpm_commit.specs.Limits.{LimitsBy, LogIs, MeetsFirst}
+pub use Rattle.rpm_commit.specs.laws.Words.{command_limit, LogOn}
+pub use Rattle.rpm_commit.specs.Reaches.{begun_store, LengthsOn, ReachesBy}
+pub use Rattle.rpm_commit.specs.laws.Words.{HasStore, ReachesOn, StoresOn}
 pub use Rattle.rpm_commit.specs.Run.{ran}
-pub use Rattle.rpm_commit.specs.Tasks.{asked_course, asked_task, changes_index, is_anew, needs_none, reads_shelf, task_course, task_parts, TaskParts}
+pub use Rattle.rpm_command.specs.Tasks.{task_parts, TaskParts}
+pub use Rattle.rpm_commit.specs.Tasks.{changes_index, is_anew, needs_none, reads_shelf, task_course}
 pub use Rattle.rpm_commit.specs.Working.{done_why, ended_as, TransactionEnding, exercise_ended, IsShut, OpensBy, OpensIn, UncommittedProgress, why_of, WorkBy, WorkOnStore}
 pub use Rattle.rpm_commit.specs.Working.{Work}
 pub use Rattle.rpm_commit.specs.Stages.{FoundStore, OpensOn, Streams, WorksOn}
@@ -39,7 +46,7 @@ pub use Rattle.rpm_db.specs.Openings.{must_rebuild, units_needed}
 pub use Rattle.rpm_db.specs.laws.PackageLaws.{is_there}
 pub use Rattle.rpm_db.specs.Room.{next_store, RoomBecomes}
 pub use Rattle.rpm_db.specs.laws.RoomLaws.{made_paged}
-pub use Rattle.rpm_db.specs.Rows.{rows_in}
+pub use Rattle.rpm_db.specs.laws.Parts.{rows_in}
 unfoldable pub use Rattle.rpm_db.specs.Rows.{rows}
 pub use Rattle.rpm_db.specs.laws.Running.{runs_none, runs_then}
 pub use Rattle.rpm_db.specs.Runs.{SameLog}

@@ -1,6 +1,6 @@
 -- The limits of a command that changes packages: the first that it meets is the one that it is answered; and when the
 -- disk failed. On it rest `limits`, `log` and `fault` of `changes` on the page (`rpm_tool`, Theorem.antt).
-use Rattle.std.specs.Prelude.{◌≡◌, ◌⊎◌, ℕ, ◌^◌, ◌<◌, ◌≤◌, List, Bool, true, false, Option, Some, None, IfOk}
+use Rattle.std.specs.Prelude.{◌≡◌, ◌⊎◌, ℕ, ◌^◌, ◌<◌, ◌≤◌, ◌||◌, if◌then◌else◌, Bool, true, false, Option, Some, None, Ok, IfOk}
 use Rattle.rpm_outside.specs.declared.disk.Disk as disk
 use Rattle.rpm_outside.specs.Files.{Files}
 use Rattle.rpm_outside.specs.Frame.{images, CrashLeaves}
@@ -8,26 +8,21 @@ use Rattle.rpm_outside.specs.Logs.{reopened}
 use Rattle.rpm_pkgdb.specs.Store.{Store, store}
 use Rattle.rpm_group.specs.Transactions.{longest_log}
 use Rattle.rpm_group.specs.Crashes.{ReopensAsOneOf}
-use Rattle.rpm_db.specs.Changes.{Change, Says}
+use Rattle.rpm_db.specs.Changes.{Says}
+use Rattle.rpm_db.specs.Openings.{must_rebuild}
 use Rattle.rpm_db.specs.State.{State, state}
 use Rattle.rpm_effects.specs.declared.tally.Halt.{Halt}
 use Rattle.rpm_effects.specs.declared.tally.Halt.TheVariants as halt
-use Rattle.rpm_effects.specs.Progress.{Outputs, Through}
+use Rattle.rpm_effects.specs.Progress.{Through}
 use Rattle.rpm_change.specs.ByIndex.{ByIndex}
 use Rattle.rpm_change.specs.Limits.{limit_of_changes, limit_of_command}
 use Rattle.rpm_effects.specs.Steps.{Course}
 use Rattle.rpm_effects.specs.declared.answer.Why.{Why}
 use Rattle.rpm_effects.specs.declared.answer.Why.TheVariants as why
 use Rattle.rpm_commit.specs.Lawful.{IsLawfulDatabase, AreLawfulDatabases, MayBegin, IsLawfulAndSame}
-use Rattle.rpm_commit.specs.Changing.{is_rebuilt, after}
+use Rattle.rpm_commit.specs.Changing.{after}
 use Rattle.rpm_commit.specs.Reaches.{LengthsOn, begun_store}
 use Rattle.rpm_commit.specs.Run.{Run}
-
--- what a command is refused for first: an index that has no room, where one is made before the changes, and then what
--- refuses the first change that is refused; where the index isn't asked, only what comes before it in a change
-abbrev pub command_limit : Bool → Bool → State → Store → List Change → Option Halt
-command_limit true made s value changes = limit_of_command made s value changes
-command_limit false made s value changes = limit_of_changes false s value changes
 
 -- a command that was done met no limit, nor one whose log is too long; one that a limit stopped met that one first, and
 -- its index isn't bad
@@ -42,17 +37,19 @@ MeetsFirst indexed first (why.IndexFull told) = indexed ≡ true → first ≡ S
 MeetsFirst indexed first (why.BadIndex unit) = indexed ≡ false
 MeetsFirst indexed first others = Unit {0}
 
--- a course meets its first limit, on files whose Packages.db isn't damaged, of a command that makes the index anew or
--- doesn't
-abbrev pub LimitsOn : Bool → Bool → (State → Course) → Files → Why → Type 0
-LimitsOn indexed anew course files given = IfOk (store files.pkg) (λ value. MeetsFirst indexed
-    (command_limit indexed (is_rebuilt anew files.idx value) (state files.pkg value) (begun_store value)
-    (course (state files.pkg value)).changes) given)
-
--- the index is asked where it is rebuilt, and where the database is lawful
+-- a course meets its first limit, on files whose Packages.db isn't damaged: an index that has no room, where one is made
+-- before the changes, as a command that makes it anew always does, and then what refuses the first change that is
+-- refused; where the index isn't asked, only what comes before it in a change. It is asked where it is made anew, and
+-- where the database is lawful
 abbrev pub LimitsBy : Bool → Type 0 → (State → Course) → Files → Why → Type 0
 LimitsBy anew Lawful course files given =
-    ByIndex (MayBegin anew Lawful) (λ indexed. LimitsOn indexed anew course files given)
+    ByIndex (MayBegin anew Lawful) (λ indexed. IfOk (store files.pkg) (λ value.
+    let s = state files.pkg value in
+    let changes = (course s).changes in
+    let first : Option Halt = if indexed
+    then limit_of_command (anew || must_rebuild files.idx (Ok value)) s (begun_store value) changes
+    else limit_of_changes false s (begun_store value) changes in
+    MeetsFirst indexed first given))
 
 -- ---- the log
 
@@ -61,39 +58,26 @@ abbrev pub LogIs : Files → Why → Type 0
 LogIs made (why.LogFull needed) = (2 ^ 28 < needed) × (needed ≤ longest_log made)
 LogIs made others = Unit {0}
 
--- a transaction is too long for the log: some files with this state that reach no further have so long a log
-abbrev pub IsTransactionTooLong : ℕ → State → (Files → Type 0) → Type 0
-IsTransactionTooLong needed s Reached = (made : Files) × Says (λ t. t ≡ s) made.pkg × Reached made × (2 ^ 28 < needed)
-    × (needed ≤ longest_log made)
-
--- a course has LogFull told only where its transaction is too long, on files whose Packages.db isn't damaged
-abbrev pub LogOn : Bool → (State → Course) → Files → Why → Type 0
-LogOn indexed course files (why.LogFull needed) =
-    IfOk (store files.pkg) (λ value. IsTransactionTooLong needed (after course (state files.pkg value))
-    (LengthsOn indexed files.pkg files.idx value (state files.pkg value) (course (state files.pkg value)).changes))
-LogOn indexed course files others = Unit {0}
-
--- the index is asked as above
+-- a course has LogFull told only where its transaction is too long, on files whose Packages.db isn't damaged: some files
+-- with the state after it, that reach no further, have so long a log. The index is asked as above
 abbrev pub LogBy : Bool → Type 0 → (State → Course) → Files → Why → Type 0
-LogBy anew Lawful course files given = ByIndex (MayBegin anew Lawful) (λ indexed. LogOn indexed course files given)
+LogBy anew Lawful course files given = ByIndex (MayBegin anew Lawful) (λ indexed. elim given [
+  | why.LogFull needed ↦ IfOk (store files.pkg) (λ value. (made : Files)
+      × Says (λ t. t ≡ after course (state files.pkg value)) made.pkg
+      × LengthsOn indexed files.pkg files.idx value (state files.pkg value) (course (state files.pkg value)).changes made
+      × (2 ^ 28 < needed) × (needed ≤ longest_log made))
+  | others ↦ Unit {0}
+])
 
 -- ---- a fault of the disk
 
--- a fault came with the commit or after it: all lines were told, and no change was refused
-pub record ToldAll (anew : Bool) (Lawful : Type 0) (course : State → Course) (files : Files)
-    (before now : Outputs) : Type 0 where
-  pub told : Says (λ s. Through (course s).steps before now) files.pkg
-  pub limits : LimitsBy anew Lawful course files why.Done
-
-module _ {D : Type 0} (d : disk.Ghosts D) where
-  -- a fault came before the commit: nothing changed, whatever a crash leaves
-  pub record StoodStill (old new : D) : Type 0 where
-    pub same : reopened (d.files new) ≡ reopened (d.files old)
-    pub crashes : AreLawfulDatabases (images d old) → CrashLeaves d old new (IsLawfulAndSame (images d old))
-    pub images : CrashLeaves d old new (ReopensAsOneOf (images d old))
-
 module _ {D : Type 0} {d : disk.Ghosts D} where
-  -- a fault of the disk came before the commit, and nothing changed, or all lines were printed and no limit was met
+  -- a fault of the disk came before the commit, and nothing changed, whatever a crash leaves; or with the commit or after
+  -- it: then all lines were printed, and no limit was met
   abbrev pub FaultIs : Run d → Bool → (State → Course) → Type 0
-  FaultIs r anew course = r.why ≡ why.DiskFault → StoodStill d r.found r.left
-      ⊎ ToldAll anew (IsLawfulDatabase (d.files r.found)) course (reopened (d.files r.found)) r.before r.after
+  FaultIs r anew course = r.why ≡ why.DiskFault
+      → ((reopened (d.files r.left) ≡ reopened (d.files r.found))
+      × (AreLawfulDatabases (images d r.found) → CrashLeaves d r.found r.left (IsLawfulAndSame (images d r.found)))
+      × CrashLeaves d r.found r.left (ReopensAsOneOf (images d r.found)))
+      ⊎ (Says (λ s. Through (course s).steps r.before r.after) (reopened (d.files r.found)).pkg
+      × LimitsBy anew (IsLawfulDatabase (d.files r.found)) course (reopened (d.files r.found)) why.Done)

@@ -7,17 +7,12 @@ pub use Rattle.rpm_outside.specs.Causes.{Rose}
 pub use Rattle.rpm_outside.specs.Changes.{IsDurable}
 pub use Rattle.rpm_outside.specs.Logs.{reopened, without_log}
 pub use Rattle.rpm_pkgdb.specs.Store.{store}
-pub use Rattle.rpm_words.specs.Ask.{IsCommandSound}
-pub use Rattle.rpm_words.specs.Number.{number}
-pub use Rattle.rpm_words.specs.Words.{word_at}
-pub use Rattle.std.specs.List.{filter_map}
 pub use Rattle.rpm_commit.specs.Changing.{EmptyBy}
 pub use Rattle.rpm_commit.specs.Answers.{AnswersChange}
 pub use Rattle.rpm_commit.specs.Limits.{LogIs}
 pub use Rattle.rpm_commit.specs.Run.{ran}
-pub use Rattle.rpm_commit.specs.Tasks.{IsCountable, asked_course, asked_task, changes_index, is_anew, needs_none}
-pub use Rattle.rpm_commit.specs.Tasks.{numbers_asked, reads_shelf, replacing_task}
-pub use Rattle.rpm_commit.specs.Tasks.{task_course, task_parts}
+pub use Rattle.rpm_command.specs.Tasks.{IsCountable, task_parts}
+pub use Rattle.rpm_commit.specs.Tasks.{changes_index, is_anew, needs_none, reads_shelf, task_course}
 pub use Rattle.rpm_commit.specs.Working.{TransactionEnding, IsShut, OpensBy, done_why, ended_as, exercise_ended}
 pub use Rattle.rpm_commit.specs.Stages.{BeginsOn, KeepsAlways, OpensOn, Streams, WorksOn}
 pub use Rattle.rpm_effects.specs.Classes.{IsOfOpening, IsOutside, is_done, is_halt, is_of_streams, is_of_words}

@@ -17,13 +17,5 @@ pub record Run {D : Type 0} (d : disk.Ghosts D) : Type 0 where
 
 -- the run with these words and this ending, of a disk as it was found and as it was left, and of both outputs
 abbrev pub ran : {D : Type 0} (d : disk.Ghosts D) → List (List ℕ) → Why → ℕ → D × D → Outputs × Outputs → Run d
-ran d words why changes disks outputs =
-    record {
-      words = words;
-      why = why;
-      changes = changes;
-      found = disks.0;
-      left = disks.1;
-      before = outputs.0;
-      after = outputs.1;
-    }
+ran d words why n disks outs =
+    record { words = words; why = why; changes = n; found = disks.0; left = disks.1; before = outs.0; after = outs.1 }

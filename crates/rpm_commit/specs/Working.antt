@@ -31,7 +31,8 @@ use Rattle.rpm_effects.specs.Endings.{why_of_halt}
 use Rattle.rpm_commit.specs.Changing.{ChangeProgress, BadBy, IsDatabaseMade}
 use Rattle.rpm_commit.specs.Lawful.{HasUsableIndex, MayBegin}
 use Rattle.rpm_effects.specs.Classes.{is_done, is_done_or_fault, IsUncommitted}
-use Rattle.rpm_commit.specs.Reaches.{ReachesBy, StoresOn}
+use Rattle.rpm_commit.specs.Reaches.{ReachesBy}
+use Rattle.rpm_commit.specs.laws.Words.{StoresOn}
 
 -- ---- opening
 

@@ -8,4 +8,5 @@ pub mod Recovered
 pub mod Standing
 pub mod Starved
 pub mod Unmade
+pub mod Words
 pub mod Works

@@ -1,15 +1,14 @@
 //! `AnswersChange` of the theorem: commands that change packages, all changes of a command line as one.
 
-ghost use Rattle.std.specs.Prelude.{◌≡◌, ◌⊎◌, ◌≤◌, true, false, IsTrue, Err, IfErr};
-ghost use Rattle.rpm_commit.specs.Prelude.{AnswersChange, asked_course, asked_task, done_why, EmptyBy, TransactionEnding, is_done, is_halt, is_of_streams, is_of_words, IsShut, IsCommandSound, KeepsAlways, laid_files, LogIs, needs_none, overlay_below, overlay_held, overlay_starved, ran, reads_shelf, reopened, Rose, shown_outputs, Streams, without_log};
+ghost use Rattle.std.specs.Prelude.{◌≡◌, ◌⊎◌, ◌≤◌, ℕ, List, true, false, IsTrue, Err, IfErr};
+ghost use Rattle.rpm_commit.specs.Prelude.{AnswersChange, done_why, EmptyBy, TransactionEnding, is_done, is_halt, is_of_streams, is_of_words, IsCountable, IsShut, KeepsAlways, laid_files, LogIs, needs_none, overlay_below, overlay_held, overlay_starved, ran, reads_shelf, reopened, Rose, shown_outputs, Streams, task_course, task_parts, without_log};
 
 use crate::courses::change_on;
-use crate::task::task_of;
+use rpm_command::Task;
 use rpm_effects::{Tally, Why, unless_starved, why_of_load, why_of_recover};
 use rpm_group::{CommitFault, Overlay, recover};
 use rpm_outside::{Buffered, Disk, Shelf, Sink};
-use rpm_words::{Ask, Words};
-use std::alloc::{AllocError, Global};
+use std::alloc::Global;
 
 /// How a command that changes packages ended, and how many of its changes were made.
 #[derive(Clone, Copy, Debug, PartialEq, Eq)]
@@ -76,7 +75,7 @@ fn end_transaction<D: Disk>(overlay: Overlay<D>, ended: Result<Tally, Why>) -> (
     }
 }
 
-/// Finishes what a crash left of a change, and makes the changes that the words of a command ask for, one after the
+/// Finishes what a crash left of a change, and makes the changes that a command asks for, one after the
 /// other and all as one change. An argument that fails has its line, and the others go on. Where there is no
 /// database, one is made.
 ///
@@ -106,35 +105,30 @@ fn end_transaction<D: Disk>(overlay: Overlay<D>, ended: Result<Tally, Why>) -> (
 /// is the moment of an installation, in seconds since 1970.
 pub fn change_asked<D: Disk, S: Shelf, O: Sink + Drop, E: Sink + Drop>(
     alloc: Global,
-    words: &Words,
-    ask: &Ask,
+    task: &Task<'_>,
     disk: D,
     shelf: &mut S,
     out: &mut Buffered<O>,
     err: &mut Buffered<E>,
     now: u32,
 ) -> (CommandEnding, D)
-    requires sound { IsCommandSound words.now ask.now }
-    ensures answers { IsTrue D.tells → (reads_shelf (asked_task words.now ask.now) ≡ true → IsTrue S.tells)
-        → AnswersChange (ran D.Disk words.now result.0.why result.0.changes (disk, result.1)
+    requires countable { IsCountable (task_parts task.now) }
+    ensures answers { (words : List (List ℕ)) → IsTrue D.tells → (reads_shelf (task_parts task.now) ≡ true → IsTrue S.tells)
+        → AnswersChange (ran D.Disk words result.0.why result.0.changes (disk, result.1)
         (shown_outputs O.Sink E.Sink out.old err.old, shown_outputs O.Sink E.Sink out.new err.new))
-        (asked_task words.now ask.now) (asked_course (S.paths shelf.old) now words.now ask.now) }
-    ensures empty { IsTrue D.tells → EmptyBy (needs_none (asked_task words.now ask.now)) (reopened (D.files disk)) result.0.why }
+        (task_parts task.now) (task_course (S.paths shelf.old) now (task_parts task.now)) }
+    ensures empty { IsTrue D.tells → EmptyBy (needs_none (task_parts task.now)) (reopened (D.files disk)) result.0.why }
     ensures keeps { KeepsAlways D.Disk result.0 disk result.1 }
-    ensures streams { Streams S.Shelf O.Sink E.Sink (reads_shelf (asked_task words.now ask.now))
+    ensures streams { Streams S.Shelf O.Sink E.Sink (reads_shelf (task_parts task.now))
         (λ why. result.0.why ≡ why) (shelf.old, out.old, err.old)
         (shelf.new, out.new, err.new) }
 {
-    let task = match task_of(alloc, words, ask) {
-        Ok(task) => task,
-        Err(AllocError) => return (unchanged(Why::NoMemory), disk),
-    };
     let mut disk = disk;
     match recover(&mut disk) {
         Ok(_) => match Overlay::load(alloc, disk) {
             Ok(overlay) => {
                 let mut overlay = overlay;
-                let ended = change_on(alloc, &mut overlay, shelf, &task, now, out, err);
+                let ended = change_on(alloc, &mut overlay, shelf, task, now, out, err);
                 end_transaction(overlay, ended)
             }
             Err(refused) => (unchanged(why_of_load(refused.why)), refused.disk),

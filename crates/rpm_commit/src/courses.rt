@@ -4,8 +4,8 @@ ghost use Rattle.std.specs.Prelude.{◌≡◌, true, IsTrue, Err};
 ghost use Rattle.rpm_commit.specs.Prelude.{changes_index, ended_as, exercise_ended, is_anew, IsCountable, needs_none, reads_shelf, shown_outputs, Streams, task_course, task_parts, WorksOn};
 
 use crate::opening::open_to_change;
-use crate::task::Task;
 use rpm_change::{add_files, erase_numbers, import_list, rebuild, replace_package};
+use rpm_command::Task;
 use rpm_effects::{Halt, Tally, Why};
 use rpm_exercise::{ExerciseFault, exercise};
 use rpm_outside::{Buffered, Disk, Shelf, Sink};

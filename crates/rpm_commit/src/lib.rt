@@ -4,7 +4,6 @@
 mod changing;
 mod courses;
 mod opening;
-mod task;
 
 pub use changing::{CommandEnding, change_asked};
 pub use rpm_effects::Why;

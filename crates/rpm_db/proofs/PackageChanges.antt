@@ -59,7 +59,7 @@ added_asked file value (request.Erase n) own = refl
 pub units_asked : (file : Units) (value : Store) (asked : PackageChange) → IsOwnHeader asked
     → added_units (state file value) (change_asked asked) ≡ live_of (rows_asked asked value)
 units_asked file value (request.Put n view) own = added_is file value n view.now own
-units_asked file value (request.Erase n) own = sym live_none
+units_asked file value (request.Erase n) own = refl
 
 -- the number of the package
 pub number_changed : (file : Units) (value : Store) (asked : PackageChange)

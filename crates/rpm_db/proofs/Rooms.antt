@@ -1,7 +1,7 @@
 -- Where a change finds room.
 use Rattle.std.proofs.Common.{◌≡◌, ℕ, ◌+◌, List, length, Option, Some, None, Ok, Err, refl, sym, ap, ◌∙◌, subst}
 use Rattle.std.specs.Prelude.{IfErr, IsSome, Result}
-use Rattle.rpm_db.proofs.Vocabulary.{BadIndex, change_for, ChangeFault, DiskFault, without_number, IndexFull, IsOfIndex, LaterCause}
+use Rattle.rpm_db.proofs.Vocabulary.{BadIndex, change_at, ChangeFault, DiskFault, without_number, IndexFull, IsOfIndex, LaterCause}
 use Rattle.rpm_db.proofs.Vocabulary.{next_store, option_map, placement, placed_generation, Placement, placement_of, Plan, put_in}
 use Rattle.rpm_db.proofs.Vocabulary.{raised_store, RoomCause, Store, StoreFull, with_placed, with_plan, with_spare}
 use Rattle.rpm_db.specs.Room.{RoomIs}
@@ -49,7 +49,7 @@ room_written said old new (Ok done) is kind = is
 room_written said old new (Err fault) is kind = subst (RoomCause said) (sym kind) tt
 
 -- a header under a new number, or one that is there
-pub put_next : (n : Option ℕ) (bytes : List ℕ) (value : Store) → put_in n (length bytes) (raised_store value) ≡ next_store (change_for n bytes) value
+pub put_next : (n : Option ℕ) (bytes : List ℕ) (value : Store) → put_in n (length bytes) (raised_store value) ≡ next_store (change_at n bytes) value
 put_next None bytes value = refl
 put_next (Some n) bytes value = refl
 

@@ -12,9 +12,10 @@ use Rattle.rpm_pkgdb.specs.laws.BlobLaws.{get-blobs-frames}
 use Rattle.rpm_pkgdb.specs.Blobs.{blob_in, blobs, blocks_for, Frame, frames}
 use Rattle.rpm_pkgdb.specs.Checksums.{checksum_holds, checksums_hold}
 use Rattle.rpm_pkgdb.specs.Frame.{pkg}
-use Rattle.rpm_pkgdb.specs.Growing.{grown, pages_after}
+use Rattle.rpm_pkgdb.specs.Growing.{grown}
+use Rattle.rpm_pkgdb.specs.laws.Parts.{pages_after}
 use Rattle.rpm_pkgdb.specs.Planned.{moves_of}
-use Rattle.rpm_pkgdb.specs.Plans.{slot_for}
+use Rattle.rpm_pkgdb.specs.laws.Parts.{slot_for}
 use Rattle.rpm_pkgdb.specs.Puts.{IsPut}
 use Rattle.rpm_pkgdb.specs.Rewritten.{IsErased}
 use Rattle.rpm_pkgdb.specs.Slots.{free, has_number, is_used, slot_at, slot_with}
@@ -22,12 +23,13 @@ use Rattle.rpm_pkgdb.specs.Store.{KeepsStore, Store}
 use Rattle.rpm_pkgdb.specs.Written.{without_number, with_plan, with_spare}
 use Rattle.rpm_pkgdb.specs.declared.added_page.Move.{Move}
 use Rattle.rpm_pkgdb.specs.declared.plan.Plan.{Plan}
-use Rattle.rpm_db.proofs.Vocabulary.{Add, apply, Bad, Change, changed_number, change_for, database_of, Erase, get-packages, Good, Header, header, HeaderFault, KeepsSums}
+use Rattle.rpm_db.proofs.Vocabulary.{Add, apply, Bad, Change, changed_number, change_at, database_of, Erase, get-packages, Good, Header, header, HeaderFault, KeepsSums}
 use Rattle.rpm_db.proofs.Vocabulary.{KeepsVerdicts, nat_cmp, next, next-state, number_for, option_map, package_of, packages, Put, state, without_index, verdict}
 use Rattle.rpm_db.proofs.Vocabulary.{verdict_of}
 use Rattle.rpm_db.proofs.VerdictLaws.{verdict_stays, written_sum}
 use Rattle.rpm_db.specs.State.{State}
-use Rattle.rpm_db.specs.Verdicts.{header_verdict, is_digest_wrong}
+use Rattle.rpm_db.specs.Verdicts.{is_digest_wrong}
+use Rattle.rpm_db.specs.inner.Verified.{header_verdict}
 use Rattle.rpm_db.specs.declared.verify.Verdict.{Verdict}
 use Rattle.rpm_db.specs.declared.verify.Verdict.TheVariants.{BadHeader, BadChecksum, BadDigest, Sound}
 use Rattle.rpm_db.specs.inner.Edits.{CanPutPlan}
@@ -137,7 +139,8 @@ read_fine blob (Err fault) is good = absurd (good (let bad : package_of (Some bl
 blob_fine : (blob : Option (Option (List ℕ))) (sums : Option (Option Bool)) → ((sum : Option Bool) → sums ≡ Some sum → sum ≡ Some true)
     → option_map package_of blob ≢ Some Bad → IsFine (verdict_of blob sums)
 blob_fine None sums right good = record { checksum = λ is. absurd cc; header = λ is. absurd cc }
-blob_fine (Some blob) None right good = record { checksum = λ is. absurd cc; header = λ is. absurd cc }
+blob_fine (Some None) None right good = record { checksum = λ is. absurd cc; header = λ is. absurd cc }
+blob_fine (Some (Some blob)) None right good = record { checksum = λ is. absurd cc; header = λ is. absurd cc }
 blob_fine (Some None) (Some sum) right good = absurd (good refl)
 blob_fine (Some (Some blob)) (Some None) right good = absurd (let e = right None refl in cc)
 blob_fine (Some (Some blob)) (Some (Some false)) right good = absurd (let e = right (Some false) refl in cc)
@@ -156,6 +159,6 @@ verdicts_are change old new before after index index' was is goes n number sums 
     (record { others = sums.others; checksum = fine.checksum; header = fine.header })
 
 -- the number of a header that is put
-pub changed_is : (file : Units) (value : Store) (n : Option ℕ) (bytes : List ℕ) → changed_number (change_for n bytes) (state file value) ≡ number_for n value
+pub changed_is : (file : Units) (value : Store) (n : Option ℕ) (bytes : List ℕ) → changed_number (change_at n bytes) (state file value) ≡ number_for n value
 changed_is file value None bytes = next-state file value
 changed_is file value (Some n) bytes = refl

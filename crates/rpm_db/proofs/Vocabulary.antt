@@ -15,17 +15,21 @@ pub use Rattle.rpm_db.specs.Lawful.{StaysLawful}
 pub use Rattle.rpm_db.specs.Openings.{IsOpened, IsOpenedOn, must_rebuild, StoreIs, units_needed}
 pub use Rattle.rpm_db.specs.laws.Own.{header-own}
 pub use Rattle.rpm_db.specs.laws.PackageLaws.{get-packages, is_there}
-pub use Rattle.rpm_db.specs.Reaches.{added_units, added_rows, dropped_rows, found_rows, ReachesMade}
+pub use Rattle.rpm_db.specs.Reaches.{added_rows, dropped_rows, found_rows, ReachesMade}
+pub use Rattle.rpm_db.specs.laws.Parts.{added_units}
 pub use Rattle.rpm_db.specs.Refusals.{AddAnswer, BadCause, BadIndexIs, EraseCause, EraseAnswer, FullCause, FullIndexIs, is_stopping, IsOfStoreErasing, IsOfIndex}
 pub use Rattle.rpm_db.specs.Refusals.{IsOfReading}
 pub use Rattle.rpm_db.specs.Refusals.{IsRead, IsRefusal, LaterCause, LaterIs, PutAnswer, PutsHeader, WholeCause}
-pub use Rattle.rpm_db.specs.Room.{next_store, raised_store, RoomCause}
+pub use Rattle.rpm_db.specs.Room.{next_store, RoomCause}
+pub use Rattle.rpm_db.specs.inner.Writes.{raised_store}
 pub use Rattle.rpm_db.specs.laws.RowLaws.{of_at, rows-insert, rows-remove, times-append, times-rows, times_none, times_one}
-pub use Rattle.rpm_db.specs.Rows.{key_row, kind_rows, kinds, package_rows, rows_at, rows_in, rows_read}
+pub use Rattle.rpm_db.specs.Rows.{kinds, package_rows, rows_at}
+pub use Rattle.rpm_db.specs.laws.Parts.{key_row, kind_rows, rows_in, rows_read}
 unfoldable pub use Rattle.rpm_db.specs.Rows.{header_rows, rows}
 pub use Rattle.rpm_db.specs.laws.Running.{runs_index, runs_looks, runs_sync, runs_then, runs_weaker}
 pub use Rattle.rpm_db.specs.Runs.{ImageFrom, SameFiles, SameLog}
-pub use Rattle.rpm_db.specs.State.{above, Bad, Good, Package, package_of, read_as, state}
+pub use Rattle.rpm_db.specs.State.{above, Bad, Good, Package, package_of, state}
+pub use Rattle.rpm_db.specs.laws.Parts.{read_as}
 unfoldable pub use Rattle.rpm_db.specs.State.{packages}
 pub use Rattle.rpm_db.specs.laws.StateLaws.{next-state, next_is_free, package-own, packages-blobs, packages-insert, packages-remove, state-blobs}
 pub use Rattle.rpm_db.specs.Verdicts.{KeepsVerdicts, verdict, verdict_of}
@@ -45,7 +49,8 @@ pub use Rattle.rpm_db.specs.inner.Making.{CanMake, IsEmptyIndex, IsSealedHere}
 pub use Rattle.rpm_db.specs.inner.Order.{AreInOrder, AreNetted, AreWithout, is_row_before, row_cmp, row_of}
 pub use Rattle.rpm_db.specs.inner.PackageChanges.{blobs_asked, bytes_asked, change_asked, EndsAsked, FitsAsked, HasRoomForRows, IsEditPlanned, IsFullFor}
 pub use Rattle.rpm_db.specs.inner.PackageChanges.{IsOfAside, IsOwnHeader, IsPlaceRefused, IsPlanAsked, number_asked, refused_store, rows_asked}
-pub use Rattle.rpm_db.specs.inner.Writes.{BlobsTo, change_for, cost_before, field_for, IndexTo, IsSealedAfter, number_for, old_rows, packages_of}
+pub use Rattle.rpm_db.specs.inner.Writes.{BlobsTo, cost_before, field_for, IndexTo, IsSealedAfter, number_for, old_rows, packages_of}
+pub use Rattle.rpm_db.specs.Changes.{change_at}
 pub use Rattle.rpm_db.specs.inner.Writes.{sealed_after, state_of, state_with, WritesRows, WritesWhole}
 pub use Rattle.rpm_header.specs.Header.{Header, header}
 pub use Rattle.rpm_header.specs.declared.form.HeaderFault.{HeaderFault}
@@ -57,7 +62,8 @@ unfoldable pub use Rattle.rpm_hindex.specs.Plans.{IsPlanFor}
 pub use Rattle.rpm_hindex.specs.Refusals.{IsBad}
 pub use Rattle.rpm_hindex.specs.Rows.{hash_of, no_row, Row, row_nth, same_row, SameRows}
 unfoldable pub use Rattle.rpm_hindex.specs.Rows.{times}
-pub use Rattle.rpm_hindex.specs.Sizes.{record_units, units_for}
+pub use Rattle.rpm_hindex.specs.Sizes.{units_for}
+pub use Rattle.rpm_hindex.specs.laws.Parts.{record_units}
 unfoldable pub use Rattle.rpm_hindex.specs.Sizes.{bucket_count, is_bucket_count, live_of}
 pub use Rattle.rpm_hindex.specs.State.{buckets_of, is_headed, seal_unit, sealed, IndexState}
 unfoldable pub use Rattle.rpm_hindex.specs.State.{is_current, is_in_order, is_ordered}
@@ -79,7 +85,8 @@ pub use Rattle.rpm_outside.specs.laws.Looking.{looks_more, looks_none, looks_the
 pub use Rattle.rpm_outside.specs.laws.Moments.{leaves_then, leaves_weaker}
 pub use Rattle.rpm_pkgdb.specs.Answers.{AnswerIs, given_bytes}
 pub use Rattle.rpm_pkgdb.specs.laws.BlobLaws.{get-blobs, get-blobs-frames}
-pub use Rattle.rpm_pkgdb.specs.Blobs.{blob_in, entry_of_slot, Frame, frame_of, frames}
+pub use Rattle.rpm_pkgdb.specs.Blobs.{blob_in, Frame, frame_of, frames}
+pub use Rattle.rpm_pkgdb.specs.laws.Parts.{entry_of_slot}
 unfoldable pub use Rattle.rpm_pkgdb.specs.Blobs.{blobs}
 pub use Rattle.rpm_pkgdb.specs.Checksums.{checksum_holds, checksums_hold}
 pub use Rattle.rpm_pkgdb.specs.Costs.{cost, cost_all, cost_to, cost_to-cost_all, cost_to_more}
@@ -91,10 +98,12 @@ pub use Rattle.rpm_pkgdb.specs.Planned.{IsFor, IsStoreFull, IsPlan, moves_of}
 pub use Rattle.rpm_pkgdb.specs.Quiet.{Anything, BlobMap, IsQuiet, RepresentsStore, Represents}
 pub use Rattle.rpm_pkgdb.specs.Slots.{free, is_used, slot_with}
 pub use Rattle.rpm_pkgdb.specs.Stays.{SameOutside}
-pub use Rattle.rpm_pkgdb.specs.Store.{blank_store, in_file, is_blank, KeepsStore, made_or_damaged, made_store, next_number, Store, unless}
+pub use Rattle.rpm_pkgdb.specs.Store.{blank_store, in_file, is_blank, KeepsStore, next_number, Store}
+pub use Rattle.rpm_pkgdb.specs.laws.Parts.{made_or_damaged, made_store, unless}
 unfoldable pub use Rattle.rpm_pkgdb.specs.Store.{store}
 pub use Rattle.rpm_pkgdb.specs.Words.{begins_with_word, word}
-pub use Rattle.rpm_pkgdb.specs.Written.{without_number, field_after, made_new, MakesTo, next_field, RaisesTo, with_generation, with_plan}
+pub use Rattle.rpm_pkgdb.specs.Written.{without_number, made_new, MakesTo, next_field, RaisesTo, with_generation, with_plan}
+pub use Rattle.rpm_pkgdb.specs.laws.Parts.{field_after}
 pub use Rattle.rpm_pkgdb.specs.Written.{with_spare}
 pub use Rattle.rpm_pkgdb.specs.declared.added_page.Move.{Move}
 pub use Rattle.rpm_pkgdb.specs.declared.blob.GetFault.{GetFault}

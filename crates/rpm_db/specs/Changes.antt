@@ -20,6 +20,11 @@ pub data Change : Type 0 where
   Put : ℕ → List ℕ → Change
   Erase : ℕ → Change
 
+-- The change that a header makes: under a number that is there, or under the next one.
+abbrev pub change_at : Option ℕ → List ℕ → Change
+change_at None bytes = Add bytes
+change_at (Some n) bytes = Put n bytes
+
 -- the greatest number of these entries, 0 where there are none
 abbrev pub greatest_in : {X : Type 0} → List (ℕ × X) → ℕ
 greatest_in [] = 0

@@ -29,7 +29,7 @@ database_of value index stopped = record { store = value; index = index; stopped
 
 -- a store that was opened without its index
 abbrev pub without_index : Store → Database
-without_index value = database_of value None false
+without_index value = record { store = value; index = None; stopped = false }
 
 -- the generation of its packages, which each change raises by one
 abbrev pub generation_of : Database → ℕ

@@ -44,8 +44,7 @@ must_rebuild idx (Err damage) = false
 
 -- the units of an index that is made of its packages
 abbrev pub units_needed : Units → Result Store Damage → ℕ
-units_needed pkg (Ok value) = units_for (rows (packages pkg value))
-units_needed pkg (Err damage) = 0
+units_needed pkg said = elim said [ Ok value ↦ units_for (rows (packages pkg value)) | Err damage ↦ 0 ]
 
 -- the index is full exactly where it must be made and needs too many units
 abbrev pub FullOpenIs : {A : Type 0} → Bool → ℕ → Result A DbOpenFault → Type 0

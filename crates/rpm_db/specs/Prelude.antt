@@ -49,10 +49,13 @@ pub use Rattle.rpm_db.specs.Refusals.{AddAnswer, BadIndexIs, EraseAnswer, FullCa
 pub use Rattle.rpm_db.specs.Refusals.{IsOfReading}
 pub use Rattle.rpm_db.specs.Refusals.{IsOfStoreErasing, IsOfRoom, IsRefusal, LaterIs, PutAnswer, StaysWhole, WholeCause}
 pub use Rattle.rpm_db.specs.Refusals.{is_stopping}
-pub use Rattle.rpm_db.specs.Room.{RoomIs, next_store, raised_store}
-pub use Rattle.rpm_db.specs.Rows.{header_rows, kind_rows, rows, rows_at, rows_read}
+pub use Rattle.rpm_db.specs.Room.{RoomIs, next_store}
+pub use Rattle.rpm_db.specs.inner.Writes.{raised_store}
+pub use Rattle.rpm_db.specs.Rows.{header_rows, rows, rows_at}
+pub use Rattle.rpm_db.specs.laws.Parts.{kind_rows, rows_read}
 pub use Rattle.rpm_db.specs.State.{Package, package_of, packages, state}
-pub use Rattle.rpm_db.specs.Verdicts.{digest_differs, header_verdict, is_digest_wrong, verdict}
+pub use Rattle.rpm_db.specs.Verdicts.{is_digest_wrong, verdict}
+pub use Rattle.rpm_db.specs.inner.Verified.{digest_differs, header_verdict}
 pub use Rattle.rpm_db.specs.declared.change_fault.ChangeFault.TheVariants.{BadHeader}
 pub use Rattle.rpm_db.specs.declared.open_fault.DbOpenFault.TheVariants.{Damaged}
 pub use Rattle.rpm_db.specs.inner.Both.{CanApply, CanChange, CanTake, IndexIs, IsApplied}

@@ -11,11 +11,11 @@ use Rattle.rpm_db.specs.Changes.{Change, Add, Put, Erase, apply, next}
 use Rattle.rpm_db.specs.Rows.{rows, package_rows, rows_at}
 use Rattle.rpm_db.specs.State.{State, Good}
 
--- the units of the records that a change may add
-abbrev pub added_units : State → Change → ℕ
-added_units s (Add bytes) = live_of (package_rows (next s) (Good bytes))
-added_units s (Put n bytes) = live_of (package_rows n (Good bytes))
-added_units s (Erase n) = 0
+-- The rows that a change brings into the index.
+abbrev pub added_rows : State → Change → List Row
+added_rows s (Add bytes) = package_rows (next s) (Good bytes)
+added_rows s (Put n bytes) = package_rows n (Good bytes)
+added_rows s (Erase n) = []
 
 -- the units of an index of all rows after it, made from scratch
 abbrev pub units_needed_after : State → Change → ℕ
@@ -23,7 +23,7 @@ units_needed_after s change = units_for (rows (apply change s).packages)
 
 -- the file gets those records after what it has, or is made from scratch; it never gets shorter
 abbrev pub Reaches : State → Change → Units → Units → Type 0
-Reaches s change old new = length new ≤ max (length old + added_units s change) (units_needed_after s change)
+Reaches s change old new = length new ≤ max (length old + live_of (added_rows s change)) (units_needed_after s change)
 
 -- the file has what it had, or so many units: those of an index that was rebuilt
 abbrev pub ReachesMade : ℕ → Units → Units → Type 0
@@ -36,12 +36,6 @@ abbrev pub dropped_rows : State → Change → List Row
 dropped_rows s (Add bytes) = []
 dropped_rows s (Put n bytes) = rows_at n (finite.get s.packages n)
 dropped_rows s (Erase n) = rows_at n (finite.get s.packages n)
-
--- the rows that a change brings into the index
-abbrev pub added_rows : State → Change → List Row
-added_rows s (Add bytes) = package_rows (next s) (Good bytes)
-added_rows s (Put n bytes) = package_rows n (Good bytes)
-added_rows s (Erase n) = []
 
 -- the rows that an index holds, whatever it is
 abbrev pub found_rows : Units → List Row

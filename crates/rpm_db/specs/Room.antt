@@ -7,15 +7,15 @@ use Rattle.rpm_db.specs.declared.change_fault.ChangeFault.{ChangeFault}
 use Rattle.rpm_db.specs.declared.change_fault.ChangeFault.TheVariants.{StoreFull, IndexFull, BadIndex}
 use Rattle.rpm_db.specs.Changes.{Change, Add, Put, Erase}
 
--- a store with the same slots under the next generation
-abbrev pub raised_store : Store → Store
-raised_store value = with_generation (value.generation + 1) value
-
--- the store after a change: its slots, number field and generation; None where it is full
+-- The store after a change, under the next generation: none where it is full.
 abbrev pub next_store : Change → Store → Option Store
-next_store (Add bytes) value = put_in None (length bytes) (raised_store value)
-next_store (Put n bytes) value = put_in (Some n) (length bytes) (raised_store value)
-next_store (Erase n) value = Some (without_number n (raised_store value))
+next_store change value =
+    let raised : Store = with_generation (value.generation + 1) value in
+    elim change [
+      | Add bytes ↦ put_in None (length bytes) raised
+      | Put n bytes ↦ put_in (Some n) (length bytes) raised
+      | Erase n ↦ Some (without_number n raised)
+    ]
 
 -- a store becomes the one that is said, up to room in memory
 abbrev pub RoomBecomes : Option Store → Store → Store → Type 0

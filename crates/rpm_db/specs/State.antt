@@ -13,15 +13,18 @@ pub data Package : Type 0 where
   Good : List ℕ → Package
   Bad : Package
 
--- a blob as a package, good by its header or bad
-abbrev pub read_as : Result Header HeaderFault → Package
-read_as (Ok h) = Good h.blob
-read_as (Err fault) = Bad
+-- What f says of a header, and the other where it can't be read.
+abbrev pub header_or : {X : Type 0} → (Header → X) → Result Header HeaderFault → X → X
+header_or f read other = elim read [ Ok h ↦ f h | Err fault ↦ other ]
 
--- a number's package is what its blob says, where the blob's framing is right
+-- What f says of the header of a package, and the other where the package is bad or its header can't be read.
+abbrev pub package_or : {X : Type 0} → (Header → X) → Package → X → X
+package_or f p other = elim p [ Good bytes ↦ header_or f (header bytes) other | Bad ↦ other ]
+
+-- A number's package is the header of its blob; it is bad where the blob has no right framing or is no header.
 abbrev pub package_of : Option (List ℕ) → Package
 package_of None = Bad
-package_of (Some blob) = read_as (header blob)
+package_of (Some blob) = header_or (λ h. Good h.blob) (header blob) Bad
 
 -- the package of each number
 unfoldable pub packages : Units → Store → FinMap nat_cmp Package

@@ -1,9 +1,8 @@
 -- What verifying says of a number.
-use Rattle.std.specs.Prelude.{◌≡◌, ◌≢◌, ℕ, List, Bool, false, not, if◌then◌else◌, Option, Some, None, Result, Ok, Err}
+use Rattle.std.specs.Prelude.{◌≡◌, ◌≢◌, ℕ, List, Bool, false, not, if◌then◌else◌, Option, Some, None}
 use Rattle.std.specs.FinMap as finite
 use Rattle.std.specs.Str.{bytes_eq}
 use Rattle.hex.specs.Hex.{encode_lower}
-use Rattle.rpm_header.specs.declared.form.HeaderFault.{HeaderFault}
 use Rattle.rpm_header.specs.Header.{Header, header}
 use Rattle.rpm_header.specs.Digest.{immutable_digest}
 use Rattle.rpm_outside.specs.Files.{Units}
@@ -13,29 +12,20 @@ use Rattle.rpm_tags.specs.Value.{first_text}
 use Rattle.rpm_db.specs.declared.verify.Verdict.{Verdict}
 use Rattle.rpm_db.specs.declared.verify.Verdict.TheVariants.{Sound, BadHeader, BadChecksum, BadDigest}
 use Rattle.rpm_db.specs.Database.{Database, store_of}
+use Rattle.rpm_db.specs.State.{header_or}
 
--- a digest differs from its text when both are there, and the text isn't the digest in lower-case hex
-abbrev pub digest_differs : Option (List ℕ) → Option (List ℕ) → Bool
-digest_differs (Some digest) (Some text) = not (bytes_eq text (encode_lower digest))
-digest_differs _ _ = false
-
--- a region of tag 63, and a text 273 that isn't its digest
+-- A header has a region of tag 63, and a text 273 that isn't its digest in lower-case hex.
 unfoldable pub is_digest_wrong : Header → Bool
-is_digest_wrong h = digest_differs (immutable_digest h) (first_text h 273)
+is_digest_wrong h = elim (immutable_digest h) [
+  | Some digest ↦ elim (first_text h 273) [ Some text ↦ not (bytes_eq text (encode_lower digest)) | None ↦ false ]
+  | None ↦ false
+]
 
--- given whether the checksum holds
-abbrev pub header_verdict : Bool → Result Header HeaderFault → Verdict
-header_verdict sum (Err fault) = BadHeader
-header_verdict sum (Ok h) = if sum then (if is_digest_wrong h then BadDigest else Sound) else BadChecksum
-
--- what verifying says of a blob and of whether its checksum holds
-abbrev pub blob_verdict : Option (List ℕ) → Option Bool → Verdict
-blob_verdict (Some blob) (Some sum) = header_verdict sum (header blob)
-blob_verdict _ _ = BadHeader
-
--- None of a number that isn't there
+-- What verifying says of a blob and of whether its checksum holds: none of a number that isn't there.
 abbrev pub verdict_of : Option (Option (List ℕ)) → Option (Option Bool) → Option Verdict
-verdict_of (Some blob) (Some sum) = Some (blob_verdict blob sum)
+verdict_of (Some (Some blob)) (Some (Some sum)) = Some (header_or (λ h.
+    if sum then (if is_digest_wrong h then BadDigest else Sound) else BadChecksum) (header blob) BadHeader)
+verdict_of (Some _) (Some _) = Some BadHeader
 verdict_of _ _ = None
 
 -- what verifying says of a package, none where there is no such number

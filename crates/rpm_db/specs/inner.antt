@@ -6,4 +6,5 @@ pub mod Filling
 pub mod Making
 pub mod Order
 pub mod PackageChanges
+pub mod Verified
 pub mod Writes

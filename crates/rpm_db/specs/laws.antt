@@ -4,6 +4,7 @@ pub mod FromOne
 pub mod Kept
 pub mod Own
 pub mod PackageLaws
+pub mod Parts
 pub mod RoomLaws
 pub mod RowLaws
 pub mod Running

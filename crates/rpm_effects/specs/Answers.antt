@@ -47,28 +47,19 @@ CommandProgress course given old new reads_to =
 
 -- where the log is malformed: that is told, and not a damage
 abbrev pub Misread : ℕ → Why → Type 0
-Misread unit (why.BadLog u) = u ≡ unit
-Misread unit why.DiskFault = Unit {0}
-Misread unit why.NoMemory = Unit {0}
-Misread unit _ = ⊥
+Misread unit given =
+    elim given [ why.BadLog u ↦ u ≡ unit | why.DiskFault ↦ Unit {0} | why.NoMemory ↦ Unit {0} | _ ↦ ⊥ ]
 
 -- where the database is damaged
 abbrev pub RefusalIs : Damage → Why → Type 0
-RefusalIs damage (why.Damaged d) = d ≡ damage
-RefusalIs damage why.DiskFault = Unit {0}
-RefusalIs damage why.NoMemory = Unit {0}
-RefusalIs damage _ = ⊥
+RefusalIs damage given =
+    elim given [ why.Damaged d ↦ d ≡ damage | why.DiskFault ↦ Unit {0} | why.NoMemory ↦ Unit {0} | _ ↦ ⊥ ]
 
 -- ---- the closing line
 
--- a line to err that went through, or of which err took the first bytes and failed
-abbrev pub Closes : List ℕ → Outputs → Outputs → ℕ → ℕ → Type 0
-Closes line old new before now = (new.out ≡ old.out)
-    × (GainIs new.err_tells old.err new.err line ⊎ (GainedPart new.err_tells old.err new.err line
-    × Rose before now))
-
--- what was done, and then the closing line
+-- what was done, and then a line to err that went through, or of which err took the first bytes and failed
 pub record ClosingEnding (Did : Outputs → Type 0) (line : List ℕ) (new : Outputs) (before now : ℕ) : Type 0 where
   pub mid : Outputs
   pub did : Did mid
-  pub closes : Closes line mid new before now
+  pub closes : (new.out ≡ mid.out) × (GainIs new.err_tells mid.err new.err line
+      ⊎ (GainedPart new.err_tells mid.err new.err line × Rose before now))

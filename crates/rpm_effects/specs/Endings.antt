@@ -33,26 +33,17 @@ why_of_halt halt.OutFault = why.OutFault
 why_of_halt halt.ErrFault = why.ErrFault
 why_of_halt halt.NoMemory = why.NoMemory
 
--- the exit status of each answer
+-- the exit status of each answer: that of the others is the database's
 abbrev pub status_of : Why → ℕ
 status_of why.Done = 0
 status_of (why.Failed n) = min n 250
 status_of (why.Usage fault) = 251
 status_of (why.BadFormat fault) = 251
-status_of (why.BadLog unit) = 252
-status_of (why.Damaged damage) = 252
-status_of why.NumbersSpent = 252
-status_of why.GenerationSpent = 252
-status_of why.StoreFull = 252
-status_of (why.NotEmpty held) = 252
-status_of (why.BadIndex unit) = 252
-status_of (why.IndexFull needed) = 252
-status_of (why.LogFull needed) = 252
-status_of why.DiskFault = 252
 status_of why.ShelfFault = 253
 status_of why.OutFault = 253
 status_of why.ErrFault = 253
 status_of why.NoMemory = 254
+status_of others = 252
 
 -- an answer of loading
 abbrev pub why_of_load : LoadFault → Why

@@ -1,24 +1,12 @@
 -- What a command that changes nothing does, argument by argument: the parts of the courses under `plain`, `files` and
 -- `keyed` of the page (`rpm_tool`, Theorem.antt), and the law `numbers`.
-use Rattle.std.specs.Prelude.{ℕ, ◌+◌, ◌<◌, List, [], ◌∷◌, ◌++◌, Bool, true, false, not, if◌then◌else◌, Option, Some}
-use Rattle.std.specs.Prelude.{None}
-use Rattle.std.specs.List.{list_any, flat_map}
-use Rattle.rpm_effects.specs.Steps.{Bearer, Step, ToOut, ToErr, bearer_of, is_out, Course, idle}
-
--- a number in front of others, where there is one
-abbrev pub with_number : Option ℕ → List ℕ → List ℕ
-with_number None ns = ns
-with_number (Some n) ns = n ∷ ns
-
--- a step to out, or to err
-abbrev pub step_to : Bool → Bearer → List ℕ → Step
-step_to true for bytes = ToOut for bytes
-step_to false for bytes = ToErr for bytes
+use Rattle.std.specs.Prelude.{ℕ, ◌+◌, ◌<◌, List, [], ◌∷◌, ◌++◌, Bool, true, false, not, if◌then◌else◌}
+use Rattle.std.specs.List.{list_any, filter_map, flat_map}
+use Rattle.rpm_effects.specs.Steps.{Step, bearer_of, is_out, Course, idle}
 
 -- the numbers of the packages that steps are for; the line of an argument as a whole is for none
 abbrev pub numbers_of_steps : List Step → List ℕ
-numbers_of_steps [] = []
-numbers_of_steps (s ∷ steps) = with_number (bearer_of s).number (numbers_of_steps steps)
+numbers_of_steps steps = filter_map (λ s. (bearer_of s).number) steps
 
 -- above n, and each greater than the one before it
 abbrev pub RisesFrom : ℕ → List ℕ → Type 0
@@ -38,13 +26,9 @@ nothing = record { steps = []; fails = false }
 abbrev pub fails : Step → Portion
 fails s = record { steps = s ∷ []; fails = true }
 
--- whether a step goes to standard error
-abbrev pub is_bad : Step → Bool
-is_bad s = not (is_out s)
-
--- the steps of an argument's packages: it fails once, however many messages there are on err
+-- the steps of an argument's packages: it fails where one of them goes to err, and once for all of them
 abbrev pub told_portion : List Step → Portion
-told_portion steps = record { steps = steps; fails = list_any is_bad steps }
+told_portion steps = record { steps = steps; fails = list_any (λ s. not (is_out s)) steps }
 
 -- several parts as one, which fails where one of them does
 abbrev pub together : List Portion → Portion

@@ -41,8 +41,7 @@ pub record ThroughSome (all : List Step) (old new : Outputs) : Type 0 where
   pub through : Through done old new
 
 -- some of the steps were gone through, and of the next one the first bytes; of packages after that step's none was read
-pub record StopWithin (all : List Step) (to_out : Bool) (old new : Outputs)
-    (reads_to : Bearer → Type 0) : Type 0 where
+pub record StopWithin (all : List Step) (to_out : Bool) (old new : Outputs) (reads_to : Bearer → Type 0) : Type 0 where
   pub done : List Step
   pub step : Step
   pub rest : List Step

@@ -11,7 +11,7 @@ use Rattle.rpm_effects.specs.Steps.{Course}
 
 -- what both sinks took
 abbrev pub outs : {O E : Type 0} → sink.Ghosts O → sink.Ghosts E → O → E → Outputs
-outs o e out err = outputs o.tells (o.taken out) e.tells (e.taken err)
+outs o e out err = record { out_tells = o.tells; out = o.taken out; err_tells = e.tells; err = e.taken err }
 
 -- what they took behind their buffers
 abbrev pub shown_outputs : {O E : Type 0} → sink.Ghosts O → sink.Ghosts E → Buffered O → Buffered E → Outputs

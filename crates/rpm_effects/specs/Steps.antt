@@ -18,33 +18,27 @@ whole_step j = record { argument = j; number = None }
 
 -- bytes to out, or to err
 pub data Step : Type 0 where
-  ToOut : Bearer → List ℕ → Step
-  ToErr : Bearer → List ℕ → Step
+  ToOut ToErr : Bearer → List ℕ → Step
 
 -- a step is for this argument and this package
 abbrev pub bearer_of : Step → Bearer
-bearer_of (ToOut for bytes) = for
-bearer_of (ToErr for bytes) = for
+bearer_of s = elim s [ ToOut for bytes ↦ for | ToErr for bytes ↦ for ]
 
 -- what a step gives to standard output
 abbrev pub out_bytes : Step → List ℕ
-out_bytes (ToOut for bytes) = bytes
-out_bytes (ToErr for bytes) = []
+out_bytes s = elim s [ ToOut for bytes ↦ bytes | ToErr for bytes ↦ [] ]
 
 -- what a step gives to standard error
 abbrev pub err_bytes : Step → List ℕ
-err_bytes (ToOut for bytes) = []
-err_bytes (ToErr for bytes) = bytes
+err_bytes s = elim s [ ToOut for bytes ↦ [] | ToErr for bytes ↦ bytes ]
 
 -- whether a step goes to standard output
 abbrev pub is_out : Step → Bool
-is_out (ToOut for bytes) = true
-is_out (ToErr for bytes) = false
+is_out s = elim s [ ToOut for bytes ↦ true | ToErr for bytes ↦ false ]
 
 -- the first n bytes of a step
 abbrev pub cut_step : ℕ → Step → Step
-cut_step n (ToOut for bytes) = ToOut for (take n bytes)
-cut_step n (ToErr for bytes) = ToErr for (take n bytes)
+cut_step n s = elim s [ ToOut for bytes ↦ ToOut for (take n bytes) | ToErr for bytes ↦ ToErr for (take n bytes) ]
 
 -- the steps of a command, how many of its arguments fail, and its changes: they come last, all as one
 pub record Course : Type 0 where

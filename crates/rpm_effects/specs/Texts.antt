@@ -20,7 +20,7 @@ header_text (header.BadCount i) = at_entry i (codes "bad count")
 header_text (header.NoEnd i) = at_entry i (codes "text has no end")
 header_text header.BadRegion = codes "bad region"
 
--- a fault of a package file has this text; the last two are of no file
+-- a fault of a package file has this text; the others are of no file
 unfoldable pub file_text : FileFault → List ℕ
 file_text file.Short = codes "file is cut short"
 file_text file.NotAPackage = codes "not an rpm package"
@@ -28,8 +28,7 @@ file_text file.BadMagic = codes "bad header magic"
 file_text (file.Signature fault) = codes "signature header: " ++ header_text fault
 file_text (file.Main fault) = codes "header: " ++ header_text fault
 file_text file.TooLarge = codes "header too large"
-file_text file.ReadFault = []
-file_text file.NoMemory = []
+file_text others = []
 
 -- the line that reports a package file that is refused
 abbrev pub refused_line : List ℕ → FileFault → List ℕ

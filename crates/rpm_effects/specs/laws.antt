@@ -1,4 +1,5 @@
 -- What crates above cite, and what it is proved by.
+pub mod Closing
 pub mod Courses
 pub mod Failing
 pub mod Halts

@@ -63,7 +63,7 @@ pub use Rattle.std.specs.String.{string_bytes}
 pub use Rattle.rpm_header.specs.Build.{IsText}
 pub use Rattle.rpm_header.specs.Header.{Item, alignment}
 unfoldable pub use Rattle.rpm_header.specs.Laid.{entry_bytes, data_from, offset_of}
-pub use Rattle.rpm_header.specs.Laid.{end_of_data}
+pub use Rattle.rpm_header.specs.laws.Words.{end_of_data}
 pub use Rattle.rpm_header.specs.declared.form.Form.{Form}
 pub use Rattle.std.specs.Fmt.{decimal}
 pub use Rattle.std.specs.Int.{next_multiple_of}

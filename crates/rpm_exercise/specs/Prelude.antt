@@ -1,7 +1,7 @@
 -- The words of clauses, from one place.
 pub use Rattle.std.specs.Result.{result_err}
 pub use Rattle.std.specs.String.{string_bytes}
-pub use Rattle.rpm_change.specs.Adding.{change_at}
+pub use Rattle.rpm_db.specs.Changes.{change_at}
 pub use Rattle.rpm_effects.specs.Progress.{CourseProgress}
 pub use Rattle.rpm_exercise.specs.Headers.{numbered_word}
 pub use Rattle.rpm_effects.specs.Hands.{Hand}

@@ -2,7 +2,7 @@
 use Rattle.std.specs.Prelude.{◌≡◌, ℕ, List, [], ◌∷◌, ◌++◌, take, replicate, codes, Some, None, Ok, Err, map, refl}
 use Rattle.rpm_header.specs.declared.form.Form.TheVariants as form
 use Rattle.rpm_header.specs.declared.form.HeaderFault.TheVariants as of_header
-use Rattle.rpm_file.proofs.Vocabulary.{are_ended, behind_lead, behind_padding, behind_signature, entry_bytes, data_from, dribble, dribbled_blob, dribbles, entries}
+use Rattle.rpm_file.proofs.Vocabulary.{are_ended, behind_lead, behind_padding, entry_bytes, data_from, dribble, dribbled_blob, dribbles, entries}
 use Rattle.rpm_file.proofs.Vocabulary.{entry_fault, entry_of, fault_at, front_header, headed_part, header, header_of, index_bytes, index_from, Item, lead_magic}
 use Rattle.rpm_file.proofs.Vocabulary.{list_head, magic, merged_header, number_at, Numbers, numbers, offset_of, package_header, size_in, Texts, texts}
 use Rattle.rpm_file.specs.declared.fault.FileFault.TheVariants as of_file
@@ -76,7 +76,7 @@ joined =
     ∷ 97 ∷ 0 ∷ 0 ∷ 0 ∷ 0 ∷ 0 ∷ 0 ∷ 88 ∷ []
 
 whole : package_header file ≡ Ok (record { header = record { blob = joined; entries = name ∷ size 257 ∷ [] }; rest = 9 ∷ [] })
-unfolding file lead signature main name size joined package_header behind_lead headed_part front_header size_in behind_padding behind_signature merged_header
+unfolding file lead signature main name size joined package_header behind_lead headed_part front_header size_in behind_padding merged_header
     dribble dribbled_blob data_from index_from index_bytes offset_of entry_bytes header header_of entries entry_of entry_fault fault_at number_at numbers
     texts are_ended
 whole = refl
@@ -94,12 +94,12 @@ unfolding lead package_header behind_lead headed_part front_header number_at
 no_signature = refl
 
 no_padding : package_header (lead 5 ++ signature ++ replicate 3 0) ≡ Err of_file.Short
-unfolding lead signature package_header behind_lead headed_part front_header size_in behind_padding behind_signature header header_of entries entry_of
+unfolding lead signature package_header behind_lead headed_part front_header size_in behind_padding header header_of entries entry_of
     entry_fault fault_at number_at numbers texts are_ended
 no_padding = refl
 
 no_main : package_header (lead 5 ++ signature ++ replicate 4 0 ++ replicate 16 0) ≡ Err of_file.BadMagic
-unfolding lead signature package_header behind_lead headed_part front_header size_in behind_padding behind_signature header header_of entries entry_of
+unfolding lead signature package_header behind_lead headed_part front_header size_in behind_padding header header_of entries entry_of
     entry_fault fault_at number_at numbers texts are_ended
 no_main = refl
 

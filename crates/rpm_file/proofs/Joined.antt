@@ -83,11 +83,11 @@ made_reads made (Err (fault.Main f)) a is = cc
 -- ---- the whole file
 
 pub lead_fault : (bytes : List ℕ) (f : FileFault) → behind_lead bytes ≡ Err f → package_header bytes ≡ Err f
-unfolding package_header
+unfolding package_header behind_signature
 lead_fault bytes f is = ap signature_at is
 
 file_is : (bytes rest : List ℕ) → behind_lead bytes ≡ Ok rest → package_header bytes ≡ after_signature (headed_part part.Signature rest)
-unfolding package_header
+unfolding package_header behind_signature
 file_is bytes rest is = ap signature_at is
 
 pub signature_fault : (bytes rest : List ℕ) (f : FileFault) → behind_lead bytes ≡ Ok rest → headed_part part.Signature rest ≡ Err f
@@ -142,5 +142,5 @@ none_at (Ok bytes) = none_after (headed_part part.Signature bytes)
 
 -- so the package's header with no entries more is the package's header
 pub none_with : (bytes : List ℕ) → package_header bytes ≡ package_with [] bytes
-unfolding package_header
+unfolding package_header behind_signature
 none_with bytes = sym (none_at (behind_lead bytes))

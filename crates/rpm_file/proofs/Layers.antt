@@ -7,18 +7,18 @@ use Rattle.std.proofs.Common.{length-drop, arith, lt-ltb, inl, inr}
 use Rattle.std.proofs.lemmas.Bool.{cases_Bool, ltb-false, ltb-true, or_cases, or_left, or_right}
 use Rattle.std.proofs.lemmas.List.{drop_at, drop-drop, length-replicate, length-take-le, take_at}
 use Rattle.std.proofs.lemmas.List.FromFn.{length-map-range_with_len}
-use Rattle.rpm_header.specs.Bytes.{each_below, number_at}
+use Rattle.rpm_header.specs.Bytes.{number_at}
 use Rattle.rpm_header.specs.Header.{entries, entry_of, fault_at, first as first_fault, Header, header, header_of}
-use Rattle.rpm_header.specs.Header.{index_entry, Item, section_of, unless}
+use Rattle.rpm_header.specs.Header.{index_entry, Item, section_of}
 use Rattle.rpm_header.specs.declared.form.HeaderFault.{HeaderFault}
 use Rattle.rpm_header.specs.declared.form.HeaderFault.TheVariants.{Short, TooManyEntries, TooMuchData}
 use Rattle.rpm_header.specs.declared.index.IndexEntry.{IndexEntry}
-use Rattle.rpm_header.specs.Dribbles.{dribbled_blob, dribbled_data, dribbled_index}
-use Rattle.rpm_header.specs.Laid.{blob_of, entry_bytes, data_from, end_of_data, index_bytes, index_from, entry_in_index}
-use Rattle.rpm_header.specs.Laid.{offset_of}
+use Rattle.rpm_header.specs.Dribbles.{dribbled_blob, dribbled_data}
+use Rattle.rpm_header.specs.Laid.{blob_of, entry_bytes, data_from, index_bytes, index_from, offset_of}
+use Rattle.rpm_header.specs.laws.Words.{dribbled_index, each_below, end_of_data, entry_in_index, unless}
 use Rattle.rpm_header.specs.Parts.{own_data, own_index}
-use Rattle.rpm_file.specs.inner.Joining.{HasIndexBytes}
-use Rattle.rpm_file.specs.Merging.{and_entries, passes_limits, header_with_entries}
+use Rattle.rpm_file.specs.inner.Joining.{HasIndexBytes, passes_limits}
+use Rattle.rpm_file.specs.Merging.{and_entries, header_with_entries}
 
 -- ---- the data and the index of entries, of which some come first
 

@@ -1,14 +1,15 @@
 -- A header of a list, read in two pieces.
 use Rattle.std.proofs.Common.{◌≡◌, ℕ, ◌+◌, ◌-◌, ◌*◌, ◌≤◌, ◌<◌, List, [], ◌∷◌, ◌++◌, Option, Some, None, Result, Ok, Err, length, take, drop, true, false, Bool, refl, sym, ap, subst, ◌∙◌, arith, length-append, append_assoc, le-ltb, lt-ltb}
 use Rattle.std.specs.Prelude.{nat_lt, not, if◌then◌else◌, nat_eq, is_some}
-use Rattle.rpm_file.proofs.Vocabulary.{AnswersBehind, AnswersNextIn, data_in, entries_in, Fills, front_header, has_magic, IsListFault, IsOutsideList, bytes_left}
-use Rattle.rpm_file.proofs.Vocabulary.{list_head, ListFault, magic, number_longer, pointwise, size_in, found_of_size, some_found, Takes, w32}
+use Rattle.rpm_file.proofs.Vocabulary.{AnswersBehind, AnswersNextIn, Fills, front_header, IsListFault, IsOutsideList, bytes_left}
+use Rattle.std.specs.List.{starts_with}
+use Rattle.rpm_file.proofs.Vocabulary.{list_head, ListFault, magic, number_at, number_longer, pointwise, size_in, found_of_size, some_found, Takes, w32}
 use Rattle.std.proofs.lemmas.List.{take-append-le, take_all, take_at, drop_at, drop-append-le, drop-drop, length-take, length-drop}
 use Rattle.rpm_file.specs.declared.fault.ListFault.TheVariants as fault
 
 -- ---- what the first bytes say, whatever follows them
 
-magic_longer : (xs ys : List ℕ) → 8 ≤ length xs → has_magic (xs ++ ys) ≡ has_magic xs
+magic_longer : (xs ys : List ℕ) → 8 ≤ length xs → starts_with nat_eq (xs ++ ys) magic ≡ starts_with nat_eq xs magic
 magic_longer xs ys long = ap (pointwise nat_eq magic) (take-append-le 8 xs ys long)
 
 pub size_longer : (intro more : List ℕ) → length intro ≡ 16 → size_in (intro ++ more) ≡ size_in intro
@@ -120,8 +121,11 @@ no_read_fault false false false n r is e = absurd cc
 
 pub size_fault : (bytes : List ℕ) (e : ListFault) → Err e ≡ size_in bytes → e ≡ fault.ReadFault → ⊥
 unfolding size_in
-size_fault bytes e is same = no_read_fault (not (has_magic bytes)) (nat_lt 65535 (entries_in bytes)) (nat_lt 67108864 (data_in bytes))
-    (8 + 16 * entries_in bytes + data_in bytes) (Err e) is (ap (λ (f : ListFault). Err f) same)
+size_fault bytes e is same =
+    let many = number_at w32 bytes 8 in
+    let much = number_at w32 bytes 12 in
+    no_read_fault (not (starts_with nat_eq bytes magic)) (nat_lt 65535 many) (nat_lt 67108864 much) (8 + 16 * many + much) (Err e) is
+    (ap (λ (f : ListFault). Err f) same)
 
 pub no_fault : {X : Type 0} (r : Result X ListFault) (e : ListFault) → r ≡ Err e → r ≡ Err fault.ReadFault → e ≡ fault.ReadFault
 no_fault r e is same = cc

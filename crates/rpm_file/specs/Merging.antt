@@ -2,6 +2,7 @@
 use Rattle.std.specs.Prelude.{◌≡◌, ℕ, ◌+◌, List, [], ◌∷◌, ◌++◌, length, map, All, Bool, true, false, ◌==◌, ◌&&◌, ◌||◌}
 use Rattle.std.specs.Prelude.{nat_lt, nat_le, if◌then◌else◌, Option, Some, None, Result, Ok, Err}
 use Rattle.std.specs.List.{list_any, filter_map}
+use Rattle.std.specs.Option.{option_and_then}
 use Rattle.rpm_header.specs.declared.form.Form.{Form}
 use Rattle.rpm_header.specs.declared.form.Form.TheVariants as form
 use Rattle.rpm_header.specs.Header.{max_data, max_entries, is_region_tag, Item, Header}
@@ -25,22 +26,10 @@ abbrev pub is_null : Form → Bool
 is_null form.Null = true
 is_null _ = false
 
--- one of these entries has this tag
-abbrev pub has_tag : ℕ → List Item → Bool
-has_tag tag entries = list_any (λ e. e.tag == tag) entries
-
--- an entry under the tag that it gets, unless the main header has this tag
-abbrev pub dribble_as : List Item → Item → Option ℕ → Option Item
-dribble_as main e None = None
-dribble_as main e (Some tag) = if has_tag tag main then None else Some (with_tag tag e)
-
--- what becomes of one entry
+-- an entry joins under the tag that it gets, unless an entry of the main header has this tag
 unfoldable pub dribble : List Item → Item → Option Item
-dribble main e = if is_null e.form then None else dribble_as main e (joins_as e.tag)
-
--- the entries that join, in the order of the signature header
-abbrev pub dribbles : List Item → List Item → List Item
-dribbles main signature = filter_map (dribble main) signature
+dribble main e = if is_null e.form then None else option_and_then
+    (λ tag. if list_any (λ own. own.tag == tag) main then None else Some (with_tag tag e)) (joins_as e.tag)
 
 -- ---- entries of the caller's own
 
@@ -58,14 +47,11 @@ AreStamps stamps = All (λ stamp. is_region_tag stamp.tag ≡ false) stamps
 
 -- ---- the header with all of them
 
--- a header would pass its limits with a count of entries or a size of data
-abbrev pub passes_limits : ℕ → ℕ → Bool
-passes_limits count size = nat_lt max_entries count || nat_lt max_data size
-
--- a header with these entries after its own, unless it would pass a limit
+-- a header with these entries after its own, unless it would have too many entries or too much data
 abbrev pub header_with_entries : Header → List Item → Result Header FileFault
 header_with_entries main more =
-    if passes_limits (length main.entries + length more) (length (dribbled_data main more)) then Err TooLarge
+    if nat_lt max_entries (length main.entries + length more) || nat_lt max_data (length (dribbled_data main more))
+    then Err TooLarge
     else Ok (record { blob = dribbled_blob main more; entries = main.entries ++ more })
 
 -- a header that could be read gets more entries
@@ -73,6 +59,6 @@ abbrev pub and_entries : List Item → Result Header FileFault → Result Header
 and_entries more (Ok h) = header_with_entries h more
 and_entries more (Err fault) = Err fault
 
--- the main header with all that join it
+-- the main header with all that join it, in the order of the signature header
 unfoldable pub merged_header : List Item → Header → Result Header FileFault
-merged_header signature main = header_with_entries main (dribbles main.entries signature)
+merged_header signature main = header_with_entries main (filter_map (dribble main.entries) signature)

@@ -1,8 +1,9 @@
 -- A package file: a lead, a signature header, padding, the main header, and a payload that isn't looked at.
-use Rattle.std.specs.Prelude.{ℕ, ◌+◌, ◌-◌, List, [], ◌∷◌, length, drop, Bool, not, ◌==◌, ◌&&◌, nat_eq, nat_lt}
+use Rattle.std.specs.Prelude.{ℕ, ◌+◌, ◌-◌, List, [], ◌∷◌, length, drop, ◌==◌, ◌&&◌, nat_eq, nat_lt}
 use Rattle.std.specs.Prelude.{if◌then◌else◌, Result, Ok, Err}
 use Rattle.std.specs.List.{starts_with}
 use Rattle.std.specs.Int.{w16, next_multiple_of}
+use Rattle.std.specs.Result.{result_map_both}
 use Rattle.rpm_header.specs.declared.form.HeaderFault.{HeaderFault}
 use Rattle.rpm_header.specs.declared.form.HeaderFault.TheVariants as of_header
 use Rattle.rpm_header.specs.Bytes.{number_at}
@@ -14,25 +15,19 @@ use Rattle.rpm_file.specs.declared.fault.FileFault.TheVariants.{Short, NotAPacka
 use Rattle.rpm_file.specs.declared.fault.FileFault.TheVariants.{ReadFault, NoMemory}
 use Rattle.rpm_file.specs.declared.fault.HeaderKind.{HeaderKind}
 use Rattle.rpm_file.specs.declared.fault.HeaderKind.TheVariants as part
-use Rattle.rpm_file.specs.List.{BlobAndRest, front_header, header_extent}
+use Rattle.rpm_file.specs.List.{front_header, header_extent, ◌>>=◌}
 use Rattle.rpm_file.specs.Merging.{merged_header, header_with_entries}
 
 -- ---- the lead
 
--- the first four bytes of each package file
-abbrev pub lead_magic : List ℕ
-lead_magic = 0xed ∷ 0xab ∷ 0xee ∷ 0xdb ∷ []
-
--- a lead has its magic in front, and the number 5 for the type of its signature at 78; nothing else is looked at
-abbrev pub is_lead : List ℕ → Bool
-is_lead bytes = starts_with nat_eq bytes lead_magic && number_at w16 bytes 78 == 5
-
--- what follows the lead
+-- what follows the lead, which has its magic in front, and the number 5 for the type of its signature at 78; nothing
+-- else of it is looked at
 unfoldable pub behind_lead : List ℕ → Result (List ℕ) FileFault
 behind_lead bytes =
     if nat_lt (length bytes) 96 then Err Short
-    else if not (is_lead bytes) then Err NotAPackage
-    else Ok (drop 96 bytes)
+    else if starts_with nat_eq bytes (0xed ∷ 0xab ∷ 0xee ∷ 0xdb ∷ []) && number_at w16 bytes 78 == 5
+    then Ok (drop 96 bytes)
+    else Err NotAPackage
 
 -- ---- the two headers
 
@@ -55,24 +50,12 @@ pub record HeaderAndRest : Type 0 where
   pub header : Header
   pub rest : List ℕ
 
--- a header that has no fault, with the bytes that follow it
-abbrev pub with_rest : {E : Type 0} → Result Header E → List ℕ → Result HeaderAndRest E
-with_rest (Ok h) rest = Ok (record { header = h; rest = rest })
-with_rest (Err fault) rest = Err fault
-
--- what has no fault as it is, and a fault of a header as one of the file
-abbrev pub or_fault_in : {X : Type 0} → HeaderKind → Result X HeaderFault → Result X FileFault
-or_fault_in p (Ok x) = Ok x
-or_fault_in p (Err fault) = Err (fault_in p fault)
-
--- the bytes that were found, as a header and what follows it
-abbrev pub headed_of : HeaderKind → Result BlobAndRest ListFault → Result HeaderAndRest FileFault
-headed_of p (Err fault) = Err (early_fault p fault)
-headed_of p (Ok found) = with_rest (or_fault_in p (header found.blob)) found.rest
-
--- a header with its magic, which has no fault
+-- a header with its magic, which has no fault, and the bytes that follow it
 unfoldable pub headed_part : HeaderKind → List ℕ → Result HeaderAndRest FileFault
-headed_part p bytes = headed_of p (front_header bytes)
+headed_part p bytes = do
+  found ← result_map_both (λ x. x) (early_fault p) (front_header bytes)
+  h ← result_map_both (λ x. x) (fault_in p) (header found.blob)
+  Ok (record { header = h; rest = found.rest })
 
 -- what these bytes are as a header, which says something only where they are one and nothing follows it
 abbrev pub entries_or_none : Result Header HeaderFault → List Item
@@ -97,38 +80,23 @@ behind_padding blob bytes =
 
 -- ---- all of it
 
--- a main header is joined by those entries of the signature header that belong to it
-abbrev pub joined_by : List Item → Result HeaderAndRest FileFault → Result HeaderAndRest FileFault
-joined_by signature (Err fault) = Err fault
-joined_by signature (Ok main) = with_rest (merged_header signature main.header) main.rest
-
--- the main header where the padding ends
-abbrev pub main_at : List Item → Result (List ℕ) FileFault → Result HeaderAndRest FileFault
-main_at signature (Err fault) = Err fault
-main_at signature (Ok bytes) = joined_by signature (headed_part part.Main bytes)
-
--- what follows the signature header
-unfoldable pub behind_signature : Header → List ℕ → Result HeaderAndRest FileFault
-behind_signature signature bytes = main_at signature.entries (behind_padding signature.blob bytes)
-
--- a package file goes on with its main header after a signature header without a fault
-abbrev pub after_signature : Result HeaderAndRest FileFault → Result HeaderAndRest FileFault
-after_signature (Err fault) = Err fault
-after_signature (Ok signature) = behind_signature signature.header signature.rest
-
--- a package file's signature header stands where the lead ends
-abbrev pub signature_at : Result (List ℕ) FileFault → Result HeaderAndRest FileFault
-signature_at (Err fault) = Err fault
-signature_at (Ok bytes) = after_signature (headed_part part.Signature bytes)
-
--- the main header with what joins it and the bytes that follow it in the file, or the first fault
+-- the main header, joined by those entries of the signature header that belong to it, and the bytes that follow it in
+-- the file; or the first fault
 unfoldable pub package_header : List ℕ → Result HeaderAndRest FileFault
-package_header bytes = signature_at (behind_lead bytes)
+package_header bytes = do
+  behind ← behind_lead bytes
+  signature ← headed_part part.Signature behind
+  body ← behind_padding signature.header.blob signature.rest
+  main ← headed_part part.Main body
+  merged ← merged_header signature.header.entries main.header
+  Ok (record { header = merged; rest = main.rest })
 
 -- a header that was found with these entries after its own
 abbrev pub headed_with : List Item → Result HeaderAndRest FileFault → Result HeaderAndRest FileFault
-headed_with more (Err fault) = Err fault
-headed_with more (Ok found) = with_rest (header_with_entries found.header more) found.rest
+headed_with more r = do
+  found ← r
+  h ← header_with_entries found.header more
+  Ok (record { header = h; rest = found.rest })
 
 -- a package file's header with these entries after all others
 abbrev pub package_with : List Item → List ℕ → Result HeaderAndRest FileFault

@@ -4,14 +4,19 @@ pub use Rattle.rpm_db.specs.Database.{package_cost, packages_cost, packages_cost
 pub use Rattle.rpm_db.specs.Database.{store_of}
 pub use Rattle.rpm_db.specs.laws.Own.{header-own}
 pub use Rattle.rpm_db.specs.laws.PackageLaws.{cost_more, cost_some, is_there}
-pub use Rattle.rpm_db.specs.State.{above, Bad, Good, Package, package_of, packages, read_as}
-pub use Rattle.rpm_filecheck.specs.Conflicts.{all_paths, as_owner, bad_of, files_of, files_read, IsReport, conflict_label, label_at, label_of, label_read, own_paths}
-pub use Rattle.rpm_filecheck.specs.Conflicts.{owner_of, owners, path_order}
+pub use Rattle.rpm_db.specs.State.{above, Bad, Good, Package, package_of, packages}
+pub use Rattle.rpm_db.specs.laws.Parts.{read_as}
+pub use Rattle.rpm_filecheck.specs.Conflicts.{files_of, IsReport, conflict_label, label_at, label_of, label_read}
+pub use Rattle.rpm_filecheck.specs.inner.Parts.{all_paths, as_owner, bad_of, files_read, own_paths}
+pub use Rattle.rpm_filecheck.specs.Conflicts.{owners}
+pub use Rattle.rpm_filecheck.specs.inner.Parts.{owner_of, path_order}
 unfoldable pub use Rattle.rpm_filecheck.specs.Conflicts.{bad, conflicts, owned_paths}
 pub use Rattle.rpm_filecheck.specs.Files.{beside_facts, Facts, files, OwnFile, said_of}
-pub use Rattle.rpm_filecheck.specs.Owners.{Conflict, conflicts_on, conflicts_with, is_conflict, is_directory, is_ghost, may_share, Owner}
+pub use Rattle.rpm_filecheck.specs.Owners.{Conflict, conflicts_on, is_conflict, is_directory, is_ghost, may_share, Owner}
+pub use Rattle.rpm_filecheck.specs.inner.Parts.{conflicts_with}
 pub use Rattle.rpm_filecheck.specs.inner.Alike.{agrees, is_alike}
-pub use Rattle.rpm_filecheck.specs.inner.Gathered.{GatheredFiles, owners_with, joined_to, key_order, Labels, last_from, no_files, OwnedPaths, with_files, with_header}
+pub use Rattle.rpm_filecheck.specs.inner.Gathered.{GatheredFiles, owners_with, joined_to, key_order, Labels}
+pub use Rattle.rpm_filecheck.specs.inner.Gathered.{last_from, no_files, OwnedPaths, with_files, with_header}
 pub use Rattle.rpm_filecheck.specs.inner.Gathered.{with_owner, with_package, with_packages, with_read, with_some}
 pub use Rattle.rpm_header.specs.Header.{Header, header}
 pub use Rattle.rpm_header.specs.declared.form.HeaderFault.{HeaderFault}

@@ -2,7 +2,6 @@
 use Rattle.std.specs.Prelude.{◌≡◌, ℕ, List, [], ◌∷◌, map, codes, Option, Some, None, Result, Ok, Err}
 use Rattle.std.specs.List.{flat_map}
 use Rattle.std.specs.Option.{option_and_then}
-use Rattle.std.specs.declared.cmp.Ordering.{Ordering}
 use Rattle.std.specs.Ordering.{nat_cmp}
 use Rattle.std.specs.Cmp.Lexicographic.{slice_cmp}
 use Rattle.std.specs.FinMap.{FinMap, entries, from_entries, find, get}
@@ -10,51 +9,27 @@ use Rattle.rpm_header.specs.declared.form.HeaderFault.{HeaderFault}
 use Rattle.rpm_header.specs.Header.{Header, header}
 use Rattle.rpm_tags.specs.declared.tag.Tag.TheVariants.{Nvra}
 use Rattle.rpm_tags.specs.Value.{Elements, TextList, value}
-use Rattle.rpm_db.specs.State.{Package, Good, Bad}
-use Rattle.rpm_filecheck.specs.Files.{Facts, OwnFile, files, said_of}
+use Rattle.rpm_db.specs.State.{Package, Good, Bad, package_or}
+use Rattle.rpm_filecheck.specs.Files.{OwnFile, files, said_of}
 use Rattle.rpm_filecheck.specs.Owners.{Owner, Conflict, conflicts_on}
 
 -- ---- who owns what
 
--- the files of bytes that may be no header
-abbrev pub files_read : Result Header HeaderFault → List OwnFile
-files_read (Ok h) = files h
-files_read (Err fault) = []
-
--- a Bad package has no files
+-- A package has the files of its header: none where it can't be read.
 abbrev pub files_of : Package → List OwnFile
-files_of (Good bytes) = files_read (header bytes)
-files_of Bad = []
+files_of p = package_or files p []
 
--- a package as the owner of a file, if it has it
-abbrev pub as_owner : ℕ → Option Facts → List Owner
-as_owner n None = []
-as_owner n (Some facts) = record { number = n; facts = facts } ∷ []
-
--- a package, where it has the path
-abbrev pub owner_of : List ℕ → ℕ × Package → List Owner
-owner_of path (n, p) = as_owner n (said_of path (files_of p))
-
--- a path has the owners that these packages have of it, one after the other
+-- A path is owned by those of these packages that have it, one after the other.
 abbrev pub owners : List ℕ → List (ℕ × Package) → List Owner
-owners path es = flat_map (owner_of path) es
+owners path es = flat_map (λ e. elim (said_of path (files_of e.1)) [
+  | Some facts ↦ record { number = e.0; facts = facts } ∷ []
+  | None ↦ []
+]) es
 
--- the paths of one package
-abbrev pub own_paths : ℕ × Package → List (List ℕ)
-own_paths (n, p) = map (λ f. f.path) (files_of p)
-
--- a list of packages has all their paths
-abbrev pub all_paths : List (ℕ × Package) → List (List ℕ)
-all_paths es = flat_map own_paths es
-
--- byte by byte
-abbrev pub path_order : List ℕ → List ℕ → Ordering
-path_order = slice_cmp nat_cmp
-
--- each path, with its owners by rising number
-unfoldable pub owned_paths : FinMap nat_cmp Package → FinMap path_order (List Owner)
-owned_paths packages =
-    from_entries (map (λ path. (path, owners path (entries packages))) (all_paths (entries packages)))
+-- Each path of a file, by its bytes, with its owners by rising number.
+unfoldable pub owned_paths : FinMap nat_cmp Package → FinMap (slice_cmp nat_cmp) (List Owner)
+owned_paths packages = from_entries (map (λ path. (path, owners path (entries packages)))
+    (flat_map (λ e. map (λ f. f.path) (files_of e.1)) (entries packages)))
 
 -- a database has these conflicts, by path, then by the first number, then by the second
 unfoldable pub conflicts : FinMap nat_cmp Package → List Conflict
@@ -62,14 +37,9 @@ conflicts packages = flat_map (λ e. conflicts_on e.0 e.1) (entries (owned_paths
 
 -- ---- what goes with them
 
--- the number of a package that can't be read, or nothing
-abbrev pub bad_of : ℕ × Package → List ℕ
-bad_of (n, Good bytes) = []
-bad_of (n, Bad) = n ∷ []
-
--- the numbers of the packages that can't be read, rising
+-- The numbers of the packages that can't be read, rising.
 unfoldable pub bad : FinMap nat_cmp Package → List ℕ
-bad packages = flat_map bad_of (entries packages)
+bad packages = flat_map (λ e. elim e.1 [ Good bytes ↦ [] | Bad ↦ e.0 ∷ [] ]) (entries packages)
 
 -- the first text of a value, as a format without width prints it
 abbrev pub printed_text : Option Elements → List ℕ

@@ -3,24 +3,9 @@ use Rattle.std.specs.Prelude.{ℕ, List, [], ◌∷◌, drop, Option, Some, None
 use Rattle.std.specs.Str.{bytes_eq}
 use Rattle.rpm_header.specs.Header.{Header}
 use Rattle.rpm_tags.specs.declared.tag.Tag.TheVariants.{Filenames}
-use Rattle.rpm_tags.specs.Value.{Elements, text_list, texts_in, numbers_in, value}
+use Rattle.rpm_tags.specs.Value.{text_list, texts_in, numbers_in, value}
 use Rattle.rpm_tags.specs.Wanted.{list_or_empty, first_or}
-
--- the tag of the modes
-abbrev pub FILEMODES : ℕ
-FILEMODES = 1030
-
--- the tag of the digests
-abbrev pub FILEDIGESTS : ℕ
-FILEDIGESTS = 1035
-
--- the tag of the targets of links
-abbrev pub FILELINKTOS : ℕ
-FILELINKTOS = 1036
-
--- the tag of the flags
-abbrev pub FILEFLAGS : ℕ
-FILEFLAGS = 1037
+use Rattle.rpm_filecheck.specs.declared.columns.TheConstants.{FILEDIGESTS, FILEFLAGS, FILELINKTOS, FILEMODES}
 
 -- a file's facts are what its conflicts hang on
 pub record Facts : Type 0 where
@@ -43,23 +28,21 @@ pub record Columns : Type 0 where
 
 -- a tag that is missing or of another class has no element
 unfoldable pub columns : Header → Columns
-columns h =
-    record {
-      modes = list_or_empty (numbers_in h FILEMODES);
-      digests = list_or_empty (texts_in h FILEDIGESTS);
-      links = list_or_empty (texts_in h FILELINKTOS);
-      flags = list_or_empty (numbers_in h FILEFLAGS);
-    }
+columns h = record {
+  modes = list_or_empty (numbers_in h FILEMODES);
+  digests = list_or_empty (texts_in h FILEDIGESTS);
+  links = list_or_empty (texts_in h FILELINKTOS);
+  flags = list_or_empty (numbers_in h FILEFLAGS);
+}
 
 -- the first of each, or 0 and the empty text
 abbrev pub first_facts : Columns → Facts
-first_facts c =
-    record {
-      mode = first_or 0 c.modes;
-      digest = first_or [] c.digests;
-      link = first_or [] c.links;
-      flags = first_or 0 c.flags;
-    }
+first_facts c = record {
+  mode = first_or 0 c.modes;
+  digest = first_or [] c.digests;
+  link = first_or [] c.links;
+  flags = first_or 0 c.flags;
+}
 
 -- the columns without their first elements
 abbrev pub rest_of : Columns → Columns
@@ -71,14 +54,9 @@ abbrev pub beside_facts : List (List ℕ) → Columns → List OwnFile
 beside_facts [] c = []
 beside_facts (path ∷ paths) c = record { path = path; facts = first_facts c } ∷ beside_facts paths (rest_of c)
 
--- the texts of a value, or none
-abbrev pub texts_or_none : Option Elements → List (List ℕ)
-texts_or_none None = []
-texts_or_none (Some v) = text_list v
-
--- the files of a header, in its order
+-- The files of a header, in its order.
 unfoldable pub files : Header → List OwnFile
-files h = beside_facts (texts_or_none (value h 0 Filenames)) (columns h)
+files h = beside_facts (elim (value h 0 Filenames) [ Some v ↦ text_list v | None ↦ [] ]) (columns h)
 
 -- what is said of a path: the facts at the first place that has it
 abbrev pub said_of : List ℕ → List OwnFile → Option Facts

@@ -19,19 +19,14 @@ pub record Conflict : Type 0 where
 
 -- two owners of a path, and what differs between their files
 abbrev pub conflict : List ℕ → Owner → Owner → Conflict
-conflict path a b =
-    record {
-      path = path;
-      first = a.number;
-      second = b.number;
-      digest = not (bytes_eq a.facts.digest b.facts.digest);
-      mode = not (a.facts.mode == b.facts.mode);
-      link = not (bytes_eq a.facts.link b.facts.link);
-    }
-
--- something differs
-abbrev pub owners_differ : Conflict → Bool
-owners_differ c = c.digest || (c.mode || c.link)
+conflict path a b = record {
+  path = path;
+  first = a.number;
+  second = b.number;
+  digest = not (bytes_eq a.facts.digest b.facts.digest);
+  mode = not (a.facts.mode == b.facts.mode);
+  link = not (bytes_eq a.facts.link b.facts.link);
+}
 
 -- bits 12 to 15 of the mode are 4
 abbrev pub is_directory : Facts → Bool
@@ -45,15 +40,12 @@ is_ghost f = (f.flags / 64) % 2 == 1
 abbrev pub may_share : Facts → Facts → Bool
 may_share a b = (is_directory a && is_directory b) || (is_ghost a || is_ghost b)
 
--- the two files may not share the path, and they differ
+-- The two files may not share the path, and something differs.
 abbrev pub is_conflict : List ℕ → Owner → Owner → Bool
-is_conflict path a b = not (may_share a.facts b.facts) && owners_differ (conflict path a b)
+is_conflict path a b =
+    let c = conflict path a b in not (may_share a.facts b.facts) && (c.digest || (c.mode || c.link))
 
--- an owner has these conflicts with the owners of a list
-abbrev pub conflicts_with : List ℕ → Owner → List Owner → List Conflict
-conflicts_with path a os = map (conflict path a) (filter (is_conflict path a) os)
-
--- a path has the conflicts of each owner with those after it
+-- A path has the conflicts of each owner with those after it.
 abbrev pub conflicts_on : List ℕ → List Owner → List Conflict
 conflicts_on path [] = []
-conflicts_on path (a ∷ os) = conflicts_with path a os ++ conflicts_on path os
+conflicts_on path (a ∷ os) = map (conflict path a) (filter (is_conflict path a) os) ++ conflicts_on path os

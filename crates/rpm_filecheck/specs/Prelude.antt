@@ -12,7 +12,8 @@ pub use Rattle.rpm_tags.specs.Wanted.{first_or, list_or_empty}
 pub use Rattle.rpm_filecheck.specs.Conflicts.{IsReport, conflict_label, told_label}
 pub use Rattle.rpm_filecheck.specs.Files.{beside_facts, columns, files, first_facts, rest_of}
 pub use Rattle.rpm_filecheck.specs.Frame.{FileQuestion}
-pub use Rattle.rpm_filecheck.specs.Owners.{conflicts_on, conflicts_with, is_directory, is_ghost, may_share}
+pub use Rattle.rpm_filecheck.specs.Owners.{conflicts_on, is_directory, is_ghost, may_share}
+pub use Rattle.rpm_filecheck.specs.inner.Parts.{conflicts_with}
 pub use Rattle.rpm_filecheck.specs.inner.Alike.{agrees, is_alike}
 pub use Rattle.rpm_filecheck.specs.inner.Gathered.{owners_with, joined_to, key_order, last_from, no_files, with_bad}
 pub use Rattle.rpm_filecheck.specs.inner.Gathered.{with_files, with_header, with_owner, with_package, with_packages}

@@ -30,7 +30,12 @@ pub struct Columns<'a> {
 impl<'a> Model for Columns<'a> {
     ghost Value = { model.Columns };
 
-    ghost view = { λ s. record { modes = list_or_empty s.modes; digests = list_or_empty s.digests; links = list_or_empty s.links; flags = list_or_empty s.flags } };
+    ghost view = { λ s. record {
+      modes = list_or_empty s.modes;
+      digests = list_or_empty s.digests;
+      links = list_or_empty s.links;
+      flags = list_or_empty s.flags;
+    } };
 }
 
 /// The numbers of a tag.

@@ -1,9 +1,13 @@
 -- From places and their classes to the classes of a graph's numbers.
 use Rattle.std.proofs.Common.{◌≡◌, ℕ, ◌≤◌, ◌<◌, List, [], ◌∷◌, length, get_or, map, inl, inr, sym, ap, subst, ◌∙◌, arith}
-use Rattle.rpm_graph.proofs.Vocabulary.{AreTogether, Contains, Edge, edge, edge_at, IsEdge, HasEdge, HaveEdges, HaveMembers, IsClass, IsNetwork, IsSplit}
-use Rattle.rpm_graph.proofs.Vocabulary.{IsWalk, Network}
+use Rattle.rpm_graph.proofs.Vocabulary.{Contains, Edge, edge, edge_at, IsEdge, HasEdge, HaveEdges, HaveMembers, IsClass, IsNetwork, IsSplit}
+use Rattle.rpm_graph.proofs.Vocabulary.{IsWalk, Leads, Network}
 use Rattle.std.proofs.lemmas.Bool.{cases_lt}
 use Rattle.std.proofs.lemmas.List.{get_or_default}
+
+-- each leads to the other
+abbrev AreTogether : (ℕ → ℕ → Type 0) → ℕ → ℕ → Type 0
+AreTogether E n m = Leads E n m × Leads E m n
 
 module _ (g : Network) (net : IsNetwork g) (rows : List (List ℕ)) (have : HaveEdges g (length g.edges) rows) (classes : List ℕ) (count : ℕ)
     (split : IsSplit rows classes count) where

@@ -1,13 +1,13 @@
 -- The words of proofs, from one place.
-pub use Rattle.rpm_graph.specs.Networks.{AreRising, AreTogether, edge, edge_at, HasEdge, IsEdgeBefore, IsNetwork, IsNumberRising, IsWalk, Joins, Leads, Network}
-pub use Rattle.rpm_graph.specs.Orders.{EdgesGoBack, IsAvailable, IsClass, IsNextClass, IsOrder, least, Lists, StandOnce, StandsAt}
+pub use Rattle.rpm_graph.specs.Networks.{AreRising, edge, edge_at, HasEdge, IsEdgeBefore, IsNetwork, IsNumberRising, IsWalk, Joins, Leads, Network}
+pub use Rattle.rpm_graph.specs.Orders.{EdgesGoBack, IsAvailable, IsClass, IsNextClass, IsOrder, Lists, StandOnce, StandsAt}
 pub use Rattle.rpm_graph.specs.declared.graph.Edge.{Edge}
 pub use Rattle.rpm_graph.specs.declared.listing.Listing.{Listing}
 pub use Rattle.rpm_graph.specs.declared.search.Link.{Link}
 pub use Rattle.rpm_graph.specs.declared.search.Search.{Search}
 pub use Rattle.rpm_graph.specs.inner.Listings.{AreFalling, AreLeast, ArePlaced, IsBegun, IsFirstUnlisted, IsLeastReady, IsListedNow, IsListing, IsReadyOrWaits}
 pub use Rattle.rpm_graph.specs.inner.Listings.{IsListable, IsUnderway, listed_at, unlisted_count}
-pub use Rattle.rpm_graph.specs.inner.Rows.{AreLeastNumbers, GainEnds, HaveEdges, HaveEnds, HaveMembers, with_link}
+pub use Rattle.rpm_graph.specs.inner.Rows.{AreLeastNumbers, GainEnds, HaveEdges, HaveEnds, HaveMembers, least, with_link}
 pub use Rattle.rpm_graph.specs.inner.Searches.{AreWithin, Follows, IsEdge, IsFrontOfRoots, IsLastRoot, IsLowered, IsMarked, IsNoHigher, IsOnPath, IsSearch, IsSplit, KeepsSeen}
 pub use Rattle.rpm_graph.specs.inner.Searches.{link, link_at, NoneWaits, row_lists, Searches, unseen, unseen_count, work, work_left}
 pub use Rattle.std.specs.BTreeMap.{is_at}

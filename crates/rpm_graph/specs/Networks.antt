@@ -41,7 +41,7 @@ pub record IsNetwork (g : Network) : Type 0 where
 
 -- there is an edge from n to m
 abbrev pub HasEdge : Network → ℕ → ℕ → Type 0
-HasEdge g n m = Contains g.edges (edge n m)
+HasEdge g n m = Contains g.edges (record { from = n; to = m })
 
 -- a walk goes from n over these nodes to m, each step by an edge
 abbrev pub IsWalk : (ℕ → ℕ → Type 0) → ℕ → List ℕ → ℕ → Type 0
@@ -51,7 +51,3 @@ IsWalk E n (k ∷ ks) m = E n k × IsWalk E k ks m
 -- n leads to m: they are equal, or there is a walk of edges from n to m
 abbrev pub Leads : (ℕ → ℕ → Type 0) → ℕ → ℕ → Type 0
 Leads E n m = (walk : List ℕ) × IsWalk E n walk m
-
--- each leads to the other
-abbrev pub AreTogether : (ℕ → ℕ → Type 0) → ℕ → ℕ → Type 0
-AreTogether E n m = Leads E n m × Leads E m n

@@ -1,12 +1,13 @@
 -- The classes of a graph, and the order in which they are listed.
 use Rattle.std.specs.Prelude.{◌≡◌, ℕ, ◌<◌, ◌≤◌, ◌⊎◌, ◌↔◌, List, [], take, Contains, length, slice_index, slice_index_or}
-use Rattle.rpm_graph.specs.Networks.{Network, HasEdge, AreTogether, IsNumberRising}
+use Rattle.rpm_graph.specs.Networks.{Network, HasEdge, Leads}
 
--- all numbers that are together with one of them, rising
+-- all numbers that are together with one of them, each leading to the other, rising
 pub record IsClass (g : Network) (class : List ℕ) : Type 0 where
   pub some : 0 < length class
-  pub rises : IsNumberRising class
-  pub whole : (n m : ℕ) → Contains class n → Contains class m ↔ (Contains g.numbers m × AreTogether (HasEdge g) n m)
+  pub rises : (i j : ℕ) → i < j → j < length class → slice_index class i < slice_index class j
+  pub whole : (n m : ℕ) → Contains class n
+      → Contains class m ↔ (Contains g.numbers m × (Leads (HasEdge g) n m × Leads (HasEdge g) m n))
 
 -- a number stands in one of the classes
 abbrev pub Lists : List (List ℕ) → ℕ → Type 0
@@ -18,14 +19,10 @@ pub record IsAvailable (g : Network) (listed : List (List ℕ)) (class : List �
   pub unlisted : (n : ℕ) → Contains class n → Lists listed n → ⊥
   pub ends : (n m : ℕ) → Contains class n → HasEdge g n m → Contains class m ⊎ Lists listed m
 
--- the least number of a class
-abbrev pub least : List ℕ → ℕ
-least class = slice_index class 0
-
--- the next class is the available one with the least number
+-- the next class is the available one with the least number, which is its first
 pub record IsNextClass (g : Network) (listed : List (List ℕ)) (class : List ℕ) : Type 0 where
   pub available : IsAvailable g listed class
-  pub first : (other : List ℕ) → IsAvailable g listed other → least class ≤ least other
+  pub first : (other : List ℕ) → IsAvailable g listed other → slice_index class 0 ≤ slice_index other 0
 
 -- the list of classes in which each is the next one after those before it, and in which each number stands
 pub record IsOrder (g : Network) (classes : List (List ℕ)) : Type 0 where

@@ -12,14 +12,13 @@ pub record ReopensAs (files image : Files) : Type 0 where
   pub same : reopened image ≡ files
   pub sound : IsSound (log_state image.log)
 
--- where a log was malformed the files stay as they were, and any other isn't malformed afterwards
-abbrev pub KeepsLogOf : LogState → Files → Files → Type 0
-KeepsLogOf (Malformed unit) old new = new ≡ old
-KeepsLogOf others old new = IsSound (log_state new.log)
-
 -- files that came of others: a malformed log stays with the files beside it, and no other log becomes malformed
 abbrev pub KeepsLog : Files → Files → Type 0
-KeepsLog old new = KeepsLogOf (log_state old.log) old new
+KeepsLog old new = elim (log_state old.log) [
+  | Malformed unit ↦ new ≡ old
+  | Closed ↦ IsSound (log_state new.log)
+  | Open entries ↦ IsSound (log_state new.log)
+]
 
 -- an image represents what another represents, and keeps that one's log
 pub record RepresentsSame (from image : Files) : Type 0 where

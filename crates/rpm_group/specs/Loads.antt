@@ -6,9 +6,8 @@ use Rattle.rpm_group.specs.declared.load.LoadFault.TheVariants.{BadLog, DiskFaul
 
 -- the log isn't malformed
 abbrev pub IsSound : LogState → Type 0
-IsSound Closed = Unit {0}
 IsSound (Malformed unit) = ⊥
-IsSound (Open entries) = Unit {0}
+IsSound others = Unit {0}
 
 -- a fault of the disk or of memory
 abbrev pub IsOutsideLog : LoadFault → Type 0

@@ -15,7 +15,6 @@ use Rattle.rpm_header.proofs.RegionLonger.{fault_is, none_of, number_behind, is_
 
 pub message : (a b d i s : List ℕ) (n size : ℕ) → a ≡ magic → b ≡ to_be_bytes w32 n → d ≡ to_be_bytes w32 size
     → [] ++ a ++ b ++ d ++ i ++ s ≡ header_in_file n size i s
-unfolding header_in_file
 message a b d i s n size ia ib id = rw (ia, ib, id) refl
 
 -- the number of entries that a trailer counts back

@@ -1,5 +1,5 @@
 -- The limits of what is laid out, and its parts in the order in which they are written.
-use Rattle.std.proofs.Common.{◌≡◌, ℕ, ◌+◌, ◌-◌, ◌≤◌, List, [], ◌++◌, length, true, false, Bool, Ok, refl, ap, ◌∙◌, append_assoc, length-append, arith, inl, inr}
+use Rattle.std.proofs.Common.{◌≡◌, ℕ, suc, ◌+◌, ◌-◌, ◌≤◌, List, [], ◌++◌, length, true, false, Bool, Ok, refl, ap, ◌∙◌, append_assoc, length-append, arith, inl, inr}
 use Rattle.std.specs.Prelude.{if◌then◌else◌}
 use Rattle.rpm_header.proofs.Vocabulary.{AllByRecursion, data_from, data_of, header, index_bytes, index_from, index_of, entry_in_index, Item, laid_out, Lengths}
 use Rattle.rpm_header.proofs.Vocabulary.{lengths_of, ReadsBack, region_item, to_be_bytes, trailer, trailer_entry, w32, with_region}
@@ -44,12 +44,12 @@ laid_parts false es l begun a b c d w front ia ib ic id =
     joined_plain begun (index_from 0 es) (data_from 0 es) a b c d ia ib ic id ∙ ap (λ (f : List ℕ). f ++ index_from 0 es ++ data_from 0 es) lengths
 laid_parts true es l begun a b c d w front ia ib ic id =
     let lengths : begun ≡ to_be_bytes w32 (length (with_region true es)) ++ to_be_bytes w32 (length (data_of true es)) = front ∙ rw (w.entries, w.size) refl in
-    let number : l.entries ≡ length es + 1 = omega (arith, w.entries) in
+    let number : l.entries ≡ suc (length es) = omega (arith, w.entries) in
     let offset : l.size - 16 ≡ length (data_from 0 es) =
-    omega (arith, w.size, length-append (data_from 0 es) (trailer (length es + 1)), length-index_bytes (trailer_entry (length es + 1))) in
-    let first : a ≡ begun ++ index_bytes (entry_in_index (length (data_from 0 es)) (region_item (length es + 1))) =
-    ia ∙ ap (λ (k : ℕ). begun ++ index_bytes (entry_in_index k (region_item (length es + 1)))) offset in
-    let last : d ≡ c ++ trailer (length es + 1) = id ∙ ap (λ (k : ℕ). c ++ trailer k) number in
+    omega (arith, w.size, length-append (data_from 0 es) (trailer (suc (length es))), length-index_bytes (trailer_entry (suc (length es)))) in
+    let first : a ≡ begun ++ index_bytes (entry_in_index (length (data_from 0 es)) (region_item (suc (length es)))) =
+    ia ∙ ap (λ (k : ℕ). begun ++ index_bytes (entry_in_index k (region_item (suc (length es))))) offset in
+    let last : d ≡ c ++ trailer (suc (length es)) = id ∙ ap (λ (k : ℕ). c ++ trailer k) number in
     joined_region begun _ (index_from 0 es) (data_from 0 es) _ a b c d first ib ic last ∙ ap (λ (f : List ℕ). f ++ index_of true es ++ data_of true es) lengths
 
 pub region_lengths : (es : List Item) → lengths_of (1 + length es) (0 + length (data_from 0 es) + 16)
@@ -57,14 +57,14 @@ pub region_lengths : (es : List Item) → lengths_of (1 + length es) (0 + length
 region_lengths es =
     let number : 1 + length es ≡ length (with_region true es) = omega arith in
     let size : 0 + length (data_from 0 es) + 16 ≡ length (data_of true es) =
-    omega (arith, length-append (data_from 0 es) (trailer (length es + 1)), length-index_bytes (trailer_entry (length es + 1))) in
+    omega (arith, length-append (data_from 0 es) (trailer (suc (length es))), length-index_bytes (trailer_entry (suc (length es)))) in
     ap (λ (n : ℕ). lengths_of n (0 + length (data_from 0 es) + 16)) number ∙ ap (lengths_of (length (with_region true es))) size
 
 pub room_for_trailer : (region : Bool) (es : List Item) (l : Lengths) → IsWithin (length (with_region region es)) (length (data_of region es)) l
     → region ≡ true → 16 ≤ l.size
 room_for_trailer false es l w is = absurd cc
 room_for_trailer true es l w is =
-    omega (arith, w.size, length-append (data_from 0 es) (trailer (length es + 1)), length-index_bytes (trailer_entry (length es + 1)))
+    omega (arith, w.size, length-append (data_from 0 es) (trailer (suc (length es))), length-index_bytes (trailer_entry (suc (length es))))
 
 -- what is written is the header, which is read again
 pub written : (region : Bool) (es : List Item) (l : Lengths) (blob : List ℕ) → AllByRecursion ReadsBack es

@@ -48,7 +48,7 @@ module _ (es : List Item) (each : AllByRecursion ReadsBack es) (few : suc (lengt
   il = suc (length es)
 
   abbrev entries_number : ℕ
-  entries_number = length es + 1
+  entries_number = suc (length es)
 
   abbrev section : List ℕ
   section = data_of true es

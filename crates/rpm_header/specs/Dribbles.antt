@@ -8,10 +8,8 @@ use Rattle.rpm_header.specs.Parts.{own_index, own_data}
 abbrev pub dribbled_data : Header → List Item → List ℕ
 dribbled_data h more = own_data h ++ data_from (length (own_data h)) more
 
--- the dribbled items stand in the index after a header's own entries
-abbrev pub dribbled_index : Header → List Item → List ℕ
-dribbled_index h more = own_index h ++ index_from (length (own_data h)) more
-
--- the bytes of the header with its further entries
+-- the bytes of the header with its further entries, which stand in the index after its own
 unfoldable pub dribbled_blob : Header → List Item → List ℕ
-dribbled_blob h more = blob_of (length h.entries + length more) (dribbled_index h more) (dribbled_data h more)
+dribbled_blob h more =
+    blob_of (length h.entries + length more) (own_index h ++ index_from (length (own_data h)) more)
+    (dribbled_data h more)

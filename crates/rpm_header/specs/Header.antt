@@ -1,8 +1,8 @@
 -- What a header says: its entries, or its first fault.
 use Rattle.std.specs.Prelude.{◌≡◌, ℕ, ◌≤◌, ◌<◌, ◌+◌, ◌*◌, ◌%◌, ◌^◌, List, [], ◌∷◌, length, take, drop, Bool, true}
 use Rattle.std.specs.Prelude.{false, not, ◌&&◌, ◌||◌, ◌==◌, nat_lt, if◌then◌else◌, Option, Some, None, Result, Ok, Err}
-use Rattle.std.specs.Prelude.{slice_get, All}
-use Rattle.std.specs.Option.{option_or}
+use Rattle.std.specs.Prelude.{slice_get, map, All}
+use Rattle.std.specs.Option.{option_map_or, option_or}
 use Rattle.std.specs.List.{list_any, range_with_len}
 use Rattle.std.specs.Int.{Width, w8, w16, w32, w64, byte_len}
 use Rattle.rpm_header.specs.declared.form.Form.{Form}
@@ -11,7 +11,7 @@ use Rattle.rpm_header.specs.declared.form.HeaderFault.{HeaderFault}
 use Rattle.rpm_header.specs.declared.form.HeaderFault.TheVariants.{Short, TooManyEntries, TooMuchData, BadType}
 use Rattle.rpm_header.specs.declared.form.HeaderFault.TheVariants.{BadOffset, BadCount, NoEnd, BadRegion}
 use Rattle.rpm_header.specs.declared.index.IndexEntry.{IndexEntry}
-use Rattle.rpm_header.specs.Bytes.{number_at, each_below, numbers, texts, are_ended}
+use Rattle.rpm_header.specs.Bytes.{number_at, numbers, texts, are_ended}
 
 -- ---- the limits
 
@@ -45,18 +45,15 @@ pub record Item : Type 0 where
 
 -- an entry's values have these numbers, and none where the values are of another class
 abbrev pub numbers_of : Values → List ℕ
-numbers_of (Numbers ns) = ns
-numbers_of _ = []
+numbers_of v = elim v [ Numbers ns ↦ ns | _ ↦ [] ]
 
 -- the texts of an entry, and none of another class
 abbrev pub texts_of : Values → List (List ℕ)
-texts_of (Texts ts) = ts
-texts_of _ = []
+texts_of v = elim v [ Texts ts ↦ ts | _ ↦ [] ]
 
 -- the bytes of an entry that is a Bin, and none of another class
 abbrev pub bin_bytes : Values → List ℕ
-bin_bytes (Bytes bs) = bs
-bin_bytes _ = []
+bin_bytes v = elim v [ Bytes bs ↦ bs | _ ↦ [] ]
 
 -- a header's own bytes, without what follows them, and its entries
 pub record Header : Type 0 where
@@ -74,22 +71,16 @@ index_entry_at bytes at = record {
   count = number_at w32 bytes (at + 12);
 }
 
--- the types 0 to 9
-abbrev pub forms : List Form
-forms =
-    form.Null ∷ form.Char ∷ form.Int8 ∷ form.Int16 ∷ form.Int32 ∷ form.Int64 ∷ form.Text ∷ form.Bin ∷ form.Texts
-    ∷ form.I18n ∷ []
-
--- the form of a type, and none above 9
+-- the form of a type from 0 to 9, and none above
 abbrev pub form_of : ℕ → Option Form
-form_of kind = slice_get forms kind
+form_of kind =
+    slice_get (
+    form.Null ∷ form.Char ∷ form.Int8 ∷ form.Int16 ∷ form.Int32 ∷ form.Int64 ∷ form.Text ∷ form.Bin ∷ form.Texts
+    ∷ form.I18n ∷ []) kind
 
 -- the width of a number, or of a byte
 abbrev pub width : Form → Width
-width form.Int16 = w16
-width form.Int32 = w32
-width form.Int64 = w64
-width _ = w8
+width f = elim f [ form.Int16 ↦ w16 | form.Int32 ↦ w32 | form.Int64 ↦ w64 | _ ↦ w8 ]
 
 -- a multiple of this many bytes is where an entry's data may begin
 abbrev pub alignment : Form → ℕ
@@ -97,10 +88,7 @@ alignment f = byte_len (width f)
 
 -- the forms whose elements are texts
 abbrev pub has_texts : Form → Bool
-has_texts form.Text = true
-has_texts form.Texts = true
-has_texts form.I18n = true
-has_texts _ = false
+has_texts f = elim f [ form.Text ↦ true | form.Texts ↦ true | form.I18n ↦ true | _ ↦ false ]
 
 -- the forms whose elements are numbers
 abbrev pub has_numbers : Form → Bool
@@ -173,27 +161,20 @@ form_fault (Some f) i e section =
 
 -- ---- the region
 
--- the tag of the region of a signature header, and of a main header
-abbrev pub signature_region : ℕ
-signature_region = 62
-
 -- the tag of the region of a main header
 abbrev pub main_region : ℕ
 main_region = 63
 
--- a tag is that of a region in a signature header or in a main header
+-- a tag is that of a region in a signature header, 62, or in a main header
 abbrev pub is_region_tag : ℕ → Bool
-is_region_tag tag = tag == signature_region || tag == main_region
+is_region_tag tag = tag == 62 || tag == main_region
 
--- a region's trailer counts back by some r from 1 to il: the number is 2 ^ 32 - 16 × r, which is -16 × r where it is
--- read as signed
-abbrev pub counts_back : ℕ → ℕ → Bool
-counts_back il n = list_any (λ r. n + 16 * r == 2 ^ 32) (range_with_len 1 il)
-
--- a region is a Bin of 16 bytes, the trailer, whose third number counts the entries of the region
+-- a region is a Bin of 16 bytes, the trailer, whose third number counts back some r of the il entries: it is
+-- 2 ^ 32 - 16 × r, which is -16 × r where it is read as signed
 abbrev pub region_fault : ℕ → IndexEntry → List ℕ → Option HeaderFault
 region_fault il e section =
-    if e.kind == 7 && e.count == 16 && counts_back il (number_at w32 section (e.offset + 8)) then None
+    let back = number_at w32 section (e.offset + 8) in
+    if e.kind == 7 && e.count == 16 && list_any (λ r. back + 16 * r == 2 ^ 32) (range_with_len 1 il) then None
     else Some BadRegion
 
 -- ---- all of it
@@ -208,14 +189,12 @@ module _ (il : ℕ) (blob : List ℕ) where
   abbrev pub section_of : List ℕ
   section_of = drop (8 + 16 * il) blob
 
-  -- the fault of entry i as any entry may have it
-  unfoldable pub entry_fault : ℕ → Option HeaderFault
-  entry_fault i = form_fault (form_of (index_entry i).kind) i (index_entry i) section_of
-
-  -- only entry 0 can be a region, and its other faults come first
+  -- the fault of entry i: only entry 0 can be a region, and its other faults come first
   unfoldable pub fault_at : ℕ → Option HeaderFault
-  fault_at i = option_or (entry_fault i) (
-      if i == 0 && is_region_tag (index_entry i).tag then region_fault il (index_entry i) section_of else None)
+  fault_at i =
+      let e = index_entry i in
+      option_or (form_fault (form_of e.kind) i e section_of)
+      (if i == 0 && is_region_tag e.tag then region_fault il e section_of else None)
 
 -- the form of a type, and Null above 9
 abbrev pub form_or_null : Option Form → Form
@@ -230,18 +209,13 @@ entry_of e section =
 
 -- all entries, in the order of the index
 unfoldable pub entries : ℕ → List ℕ → List Item
-entries il blob = each_below il (λ i. entry_of (index_entry il blob i) (section_of il blob))
+entries il blob = map (λ i. entry_of (index_entry il blob i) (section_of il blob)) (range_with_len 0 il)
 
 -- the first fault of a list
 abbrev pub first : {X : Type 0} → List (Option X) → Option X
 first [] = None
 first (None ∷ xs) = first xs
 first (Some x ∷ xs) = Some x
-
--- the first fault where there is one, and otherwise the answer
-abbrev pub unless : {X E : Type 0} → Option E → X → Result X E
-unless None x = Ok x
-unless (Some e) x = Err e
 
 -- the last entry of a tag
 abbrev pub last_of : ℕ → List Item → Option Item
@@ -251,7 +225,8 @@ last_of tag (e ∷ es) = option_or (last_of tag es) (if e.tag == tag then Some e
 -- the header of il entries whose own bytes these are
 unfoldable pub header_of : ℕ → List ℕ → Result Header HeaderFault
 header_of il blob =
-    unless (first (each_below il (fault_at il blob))) (record { blob = blob; entries = entries il blob })
+    option_map_or (λ fault. Err fault) (first (map (fault_at il blob) (range_with_len 0 il)))
+    (Ok (record { blob = blob; entries = entries il blob }))
 
 -- the two lengths stand in front; what follows the header's own bytes says nothing
 unfoldable pub header : List ℕ → Result Header HeaderFault

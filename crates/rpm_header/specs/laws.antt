@@ -1,2 +1,3 @@
 -- What crates above cite, and what it is proved by.
 pub mod Longer
+pub mod Words

@@ -195,7 +195,7 @@ pub fn section_of(il: u32, blob: &[u8]) -> &[u8]
 /// The first fault of entry i of a header of il entries, whose own bytes are the blob. Reads the
 /// entry once, and of its texts what `TextEnds` reads.
 #[inline(always)]
-#[tactic(auto, unfolding(crate::specs::Header::fault_at, crate::specs::Header::entry_fault))]
+#[tactic(auto, unfolding(crate::specs::Header::fault_at))]
 pub fn fault_at(il: u32, blob: &[u8], i: u32, ends: &mut TextEnds<'_>) -> Option<HeaderFault>
     requires below { i < il }
     requires index { 8 + 16 * il ≤ length blob.now }

@@ -4,19 +4,24 @@ pub use Rattle.rpm_hindex.specs.Answers.{row_of_hit, same_hit}
 unfoldable pub use Rattle.rpm_hindex.specs.Answers.{times_hit}
 pub use Rattle.rpm_hindex.specs.Costs.{chain_bytes, chains_bytes}
 pub use Rattle.rpm_hindex.specs.Images.{IsSealed, IsDurableAs, SameSeal, SealedOrSame, VoidOrSame}
-pub use Rattle.rpm_hindex.specs.Index.{behind_place, bucket_of, bucket_unit, follow, Index, index_in, is_link, is_placed, key_at, length_at, next_at, places_in}
-pub use Rattle.rpm_hindex.specs.Index.{records, units_from, units_at}
+pub use Rattle.rpm_hindex.specs.Index.{bucket_of, follow, Index, index_in, is_link, key_at, length_at}
+pub use Rattle.rpm_hindex.specs.laws.Parts.{behind_place, bucket_unit, is_placed, next_at, places_in}
+pub use Rattle.rpm_hindex.specs.Index.{records, units_at}
+pub use Rattle.rpm_hindex.specs.laws.Parts.{units_from}
 unfoldable pub use Rattle.rpm_hindex.specs.Index.{all_places, chain, is_sound, places_of, row_at, rows_of}
 pub use Rattle.rpm_hindex.specs.Padding.{AddsPadded, ArePadded, IsPadded, past_key, Remains}
 pub use Rattle.rpm_hindex.specs.Plans.{file_after, after_tail, after_units, ArePatches, buckets_after, CanWrite, HasChanged, IsAfter, IsChanged, IsSizedFor}
 pub use Rattle.rpm_hindex.specs.Plans.{LeavesOrder, patch_at, reach_with, ReachesFor, second_after, units_after, WritesPadded}
 unfoldable pub use Rattle.rpm_hindex.specs.Plans.{IsPaddedPlan, IsPlanFor}
 pub use Rattle.rpm_hindex.specs.Refusals.{DropsMore, HasUnitsFor, HoldsMore, IsBad, IsBadFor, IsFaulty, IsTooLargeFor}
-pub use Rattle.rpm_hindex.specs.Rows.{fnv, no_row, Row, row_nth, same_row, SameRows}
+pub use Rattle.rpm_hindex.specs.Rows.{no_row, Row, row_nth, same_row, SameRows}
+pub use Rattle.rpm_hindex.specs.laws.Parts.{fnv}
 unfoldable pub use Rattle.rpm_hindex.specs.Rows.{hash_of, times}
-pub use Rattle.rpm_hindex.specs.Sizes.{doubled_buckets, first_record, index_units, key_units, record_units, units_for}
+pub use Rattle.rpm_hindex.specs.Sizes.{doubled_buckets, first_record, key_units, units_for}
+pub use Rattle.rpm_hindex.specs.laws.Parts.{index_units, record_units}
 unfoldable pub use Rattle.rpm_hindex.specs.Sizes.{bucket_count, is_bucket_count, live_of}
-pub use Rattle.rpm_hindex.specs.State.{buckets_of, EndsInZero, is_headed, KeepsIndexValue, index_magic, seal_unit, sealed, IndexState, opened_state}
+pub use Rattle.rpm_hindex.specs.State.{buckets_of, EndsInZero, is_headed, KeepsIndexValue, seal_unit, sealed, IndexState, opened_state}
+pub use Rattle.rpm_hindex.specs.laws.Parts.{index_magic}
 unfoldable pub use Rattle.rpm_hindex.specs.State.{is_current, is_in_order, is_ordered}
 pub use Rattle.rpm_hindex.specs.Whole.{IsWellFormed, IsWhole}
 pub use Rattle.rpm_hindex.specs.declared.chain.Extent.{Extent}

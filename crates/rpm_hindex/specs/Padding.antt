@@ -3,7 +3,8 @@ use Rattle.std.specs.Prelude.{◌≡◌, ◌⊎◌, ℕ, ◌+◌, List, drop}
 use Rattle.std.specs.List.{All, Contains}
 use Rattle.rpm_outside.specs.Files.{bytes_of}
 use Rattle.rpm_hindex.specs.Sizes.{key_units}
-use Rattle.rpm_hindex.specs.Index.{Index, all_places, length_at, row_at, units_from}
+use Rattle.rpm_hindex.specs.Index.{Index, all_places, length_at, row_at}
+use Rattle.rpm_hindex.specs.laws.Parts.{units_from}
 
 -- the bytes of a record after its key
 abbrev pub past_key : (ℕ → List ℕ) → ℕ → List ℕ

@@ -15,17 +15,22 @@ pub use Rattle.rpm_hindex.specs.Answers.{AddsHit, AreHits, AsOften, ChainCosts, 
 pub use Rattle.rpm_hindex.specs.Answers.{IsRising, has_key, hit_at, is_wanted, times_hit}
 pub use Rattle.rpm_hindex.specs.Costs.{StaysInPlace, StaysWithin, chains_bytes}
 pub use Rattle.rpm_hindex.specs.Images.{IsSealed, IsDurableAs, SameSeal, SealedOrSame, VoidOrSame, VoidOrSameSeal}
-pub use Rattle.rpm_hindex.specs.Index.{Index, bucket_unit, chain, follow, index_in, is_link, is_placed, is_sound}
-pub use Rattle.rpm_hindex.specs.Index.{length_at, records, row_at, units_from, units_at}
+pub use Rattle.rpm_hindex.specs.Index.{Index, chain, follow, index_in, is_link, is_sound}
+pub use Rattle.rpm_hindex.specs.laws.Parts.{bucket_unit, is_placed}
+pub use Rattle.rpm_hindex.specs.Index.{length_at, records, row_at, units_at}
+pub use Rattle.rpm_hindex.specs.laws.Parts.{units_from}
 pub use Rattle.rpm_hindex.specs.Padding.{AddsPadded, ArePadded}
 pub use Rattle.rpm_hindex.specs.Plans.{ArePatches, CanWrite, IsAfter, IsChanged, IsPaddedPlan, IsPlanFor, LeavesOrder}
 pub use Rattle.rpm_hindex.specs.Plans.{WritesPadded, file_after, after_tail, after_units, buckets_after, patch_at}
 pub use Rattle.rpm_hindex.specs.Prepared.{IsPrepared, IsUnprepared}
 pub use Rattle.rpm_hindex.specs.Refusals.{HasUnitsFor, IsBad, IsBadFor, IsFaulty}
 pub use Rattle.rpm_hindex.specs.Rewrites.{IsIndexFull, IsRebuildRefused, IsRebuiltIndex}
-pub use Rattle.rpm_hindex.specs.Rows.{Row, SameRows, fnv, hash_of, row_nth}
-pub use Rattle.rpm_hindex.specs.Sizes.{bucket_count, first_record, index_units, is_bucket_count, live_of}
-pub use Rattle.rpm_hindex.specs.Sizes.{record_units, units_for}
+pub use Rattle.rpm_hindex.specs.Rows.{Row, SameRows, hash_of, row_nth}
+pub use Rattle.rpm_hindex.specs.laws.Parts.{fnv}
+pub use Rattle.rpm_hindex.specs.Sizes.{bucket_count, first_record, is_bucket_count, live_of}
+pub use Rattle.rpm_hindex.specs.laws.Parts.{index_units}
+pub use Rattle.rpm_hindex.specs.Sizes.{units_for}
+pub use Rattle.rpm_hindex.specs.laws.Parts.{record_units}
 pub use Rattle.rpm_hindex.specs.State.{KeepsIndexValue, IndexState, buckets_of, is_current, is_headed, is_in_order}
 pub use Rattle.rpm_hindex.specs.State.{is_ordered}
 pub use Rattle.rpm_hindex.specs.State.{seal_unit, opened_state}

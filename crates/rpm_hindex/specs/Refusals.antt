@@ -39,21 +39,15 @@ pub record DropsMore (drops : List Row) (buckets : ℕ) (file : Units) : Type 0 
 -- a fault that names a unit names the fault of a bucket's chain
 abbrev pub IsFaulty : ℕ → Units → PrepareFault → Type 0
 IsFaulty buckets file (BadIndex unit) = (b : ℕ) × (b < buckets) × (chain (index_in buckets file) b ≡ Err unit)
-IsFaulty buckets file (IndexFull needed) = Unit {0}
-IsFaulty buckets file DiskFault = Unit {0}
-IsFaulty buckets file NoMemory = Unit {0}
+IsFaulty buckets file others = Unit {0}
 
 -- a refusal blames a unit for a fault in a chain, or unit 1 where the change drops more than that counts
 abbrev pub IsBadFor : List Row → ℕ → Units → PrepareFault → Type 0
-IsBadFor drops buckets file (BadIndex unit) = IsFaulty buckets file (BadIndex unit)
+IsBadFor drops buckets file (BadIndex unit) = ((b : ℕ) × (b < buckets) × (chain (index_in buckets file) b ≡ Err unit))
     ⊎ ((unit ≡ 1) × DropsMore drops buckets file)
-IsBadFor drops buckets file (IndexFull needed) = Unit {0}
-IsBadFor drops buckets file DiskFault = Unit {0}
-IsBadFor drops buckets file NoMemory = Unit {0}
+IsBadFor drops buckets file others = Unit {0}
 
 -- a fault that names a unit names the fault of a bucket's chain, or unit 1, which counts too little
 abbrev pub IsBad : ℕ → Units → PrepareFault → Type 0
 IsBad buckets file (BadIndex unit) = IsFaulty buckets file (BadIndex unit) ⊎ ((unit ≡ 1) × HoldsMore buckets file)
-IsBad buckets file (IndexFull needed) = Unit {0}
-IsBad buckets file DiskFault = Unit {0}
-IsBad buckets file NoMemory = Unit {0}
+IsBad buckets file others = Unit {0}

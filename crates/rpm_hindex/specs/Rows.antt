@@ -1,6 +1,6 @@
 -- Rows: what an index records, and how often.
 use Rattle.std.specs.Prelude.{◌≡◌, ℕ, ◌*◌, ◌%◌, ◌^◌, List, [], ◌∷◌, Bool, ◌&&◌, ◌==◌, bit_xor, slice_index_or}
-use Rattle.std.specs.List.{count_by}
+use Rattle.std.specs.List.{count_by, fold}
 use Rattle.std.specs.Str.{bytes_eq}
 
 -- a key of a package, at a place of the package's list of that kind
@@ -30,11 +30,6 @@ times row rows = count_by (same_row row) rows
 abbrev pub SameRows : List Row → List Row → Type 0
 SameRows old new = (row : Row) → times row new ≡ times row old
 
--- 32-bit FNV-1a, carried on
-abbrev pub fnv : ℕ → List ℕ → ℕ
-fnv hash [] = hash
-fnv hash (b ∷ bs) = fnv (bit_xor hash b * 16777619 % 2 ^ 32) bs
-
--- the hash of a kind's byte and then the key
+-- the hash, by 32-bit FNV-1a, of a kind's byte and then the key
 unfoldable pub hash_of : ℕ → List ℕ → ℕ
-hash_of kind key = fnv 2166136261 (kind ∷ key)
+hash_of kind key = fold (λ hash b. bit_xor hash b * 16777619 % 2 ^ 32) 2166136261 (kind ∷ key)

@@ -7,10 +7,6 @@ use Rattle.rpm_hindex.specs.Rows.{Row}
 abbrev pub key_units : ℕ → ℕ
 key_units length = (length + 15) / 16
 
--- the units of a record whose key has so many bytes
-abbrev pub record_units : ℕ → ℕ
-record_units length = 1 + key_units length
-
 -- the first unit after so many bucket words
 abbrev pub first_record : ℕ → ℕ
 first_record buckets = 2 + buckets / 4
@@ -29,14 +25,10 @@ doubled_buckets (suc n) buckets records = if nat_le records (2 * buckets) then b
 unfoldable pub bucket_count : ℕ → ℕ
 bucket_count records = doubled_buckets records 64 records
 
--- the units of an index made from scratch
-abbrev pub index_units : ℕ → ℕ → ℕ
-index_units records live = first_record (bucket_count records) + live
-
--- the units of the records of these rows
+-- the units of the records of these rows: for each one, and those of its key
 unfoldable pub live_of : List Row → ℕ
-live_of rows = sum_by (λ (r : Row). record_units (length r.key)) rows
+live_of rows = sum_by (λ (r : Row). 1 + key_units (length r.key)) rows
 
 -- the units of an index of these rows, made from scratch
 abbrev pub units_for : List Row → ℕ
-units_for rows = index_units (length rows) (live_of rows)
+units_for rows = first_record (bucket_count (length rows)) + live_of rows

@@ -22,13 +22,9 @@ pub record KeepsIndexValue (file : Units) (state : IndexState) : Type 0 where
   pub second : state.second ≡ unit_at file 1
   pub units : state.units ≡ length file
 
--- `RpmH`
-abbrev pub index_magic : ℕ
-index_magic = 1215131730
-
--- unit 0 has the magic and the version
+-- unit 0 has the magic, `RpmH`, and the version
 abbrev pub is_headed : List ℕ → Bool
-is_headed first = (word 0 first == index_magic) && (word 1 first == 2)
+is_headed first = (word 0 first == 1215131730) && (word 1 first == 2)
 
 -- the generation at which an index is sealed, 0 where it isn't
 abbrev pub sealed : List ℕ → ℕ
@@ -41,10 +37,8 @@ buckets_of first = word 3 first
 -- the numbers of unit 1 suit so many buckets and units
 unfoldable pub is_ordered : ℕ → List ℕ → ℕ → Bool
 is_ordered buckets second units =
-    is_bucket_count buckets
-    && (nat_le (first_record buckets) (word 0 second)
-    && (nat_le (word 0 second) (min units (2 ^ 28))
-    && (nat_le (word 1 second) (2 * buckets)
+    is_bucket_count buckets && (nat_le (first_record buckets) (word 0 second)
+    && (nat_le (word 0 second) (min units (2 ^ 28)) && (nat_le (word 1 second) (2 * buckets)
     && (nat_le (word 2 second) (word 0 second - first_record buckets)
     && nat_le (word 0 second - first_record buckets - word 2 second) (word 2 second)))))
 
@@ -62,4 +56,4 @@ is_current generation state = (sealed state.first == generation) && is_in_order 
 
 -- unit 0 of an index that is sealed
 abbrev pub seal_unit : ℕ → ℕ → List ℕ
-seal_unit generation buckets = unit_of_words index_magic 2 generation buckets
+seal_unit generation buckets = unit_of_words 1215131730 2 generation buckets

@@ -146,8 +146,8 @@ module _ {D S O E : Type 0} (d : disk.Ghosts D) (told : IsTrue d.tells) (s : she
         record {
           line = line;
           since = (lines_stand calls mid new tells.1 rest behind).1;
-          acknowledged = λ a tree asked any done. ok_is _ (store (reopened (d.files old.disk)).pkg) first.value first.undamaged
-              (acknowledged call calls old mid new tells.1 rest behind (line_changes d told s o e paths call old mid tells.0 line a tree asked any) done
+          acknowledged = λ a tree task asked is done. ok_is _ (store (reopened (d.files old.disk)).pkg) first.value first.undamaged
+              (acknowledged call calls old mid new tells.1 rest behind (line_changes d told s o e paths call old mid tells.0 line a tree task asked is) done
               first.value first.undamaged);
         },
         lines_stay calls mid new tells.1 rest behind,

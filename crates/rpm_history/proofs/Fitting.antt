@@ -1,10 +1,11 @@
 -- What each command puts goes under a number that the field has passed, or a new one.
-use Rattle.std.proofs.Common.{◌≡◌, ℕ, ◌+◌, ◌<◌, Bool, true, false, List, [], ◌∷◌, refl, arith, nat_lt}
+use Rattle.std.proofs.Common.{◌≡◌, ℕ, ◌+◌, ◌<◌, zero, suc, Bool, true, false, List, [], ◌∷◌, length, refl, arith, nat_lt}
 use Rattle.std.specs.Prelude.{Option, Some, None, Result, Ok, Err, codes, is_some, if◌then◌else◌}
+use Rattle.std.specs.Option.{option_map_or}
 use Rattle.std.specs.FinMap as finite
 use Rattle.rpm_history.proofs.Vocabulary.{above, add_file, Adding, apply_all, as_installed, asked_task, AskParts, Bad, bytes_at, Course, course_of, drop_each}
-use Rattle.rpm_history.proofs.Vocabulary.{erase_one, erasure, Erasing, Exercising, FileFault, Good, Header, header, HeaderFault, idle, import_end, import_from}
-use Rattle.rpm_history.proofs.Vocabulary.{import_list, imported_header, Importing, in_turn, is_changing, listed_headers, ListFault, Making, max_headers, Package}
+use Rattle.rpm_history.proofs.Vocabulary.{erase_one, erasure, Erasing, Exercising, FileFault, Good, Header, header, HeaderFault, idle, import_from, import_next}
+use Rattle.rpm_history.proofs.Vocabulary.{import_list, imported_header, Importing, in_turn, list_head, ListFault, BlobAndRest, Making, max_headers, Package}
 use Rattle.rpm_history.proofs.Vocabulary.{package_header, Paths, place_fails, Placing, put_found, put_installed, Rebuilding, replacement, Replacing, State}
 use Rattle.rpm_history.proofs.Vocabulary.{task_course, TaskParts, Tree}
 use Rattle.rpm_history.proofs.Ahead.{Ahead, Fits, PutsUnder, under_then, under_fits}
@@ -51,24 +52,27 @@ imported_under : (f k : ℕ) (r : Result Header HeaderFault) → PutsUnder f (im
 imported_under f k (Ok h) = (tt, tt)
 imported_under f k (Err fault) = tt
 
-end_under : (f k : ℕ) (fault : Option ListFault) → PutsUnder f (import_end k fault).changes
-end_under f k None = tt
-end_under f k (Some fault) = tt
-
 course_under : (f : ℕ) (a b : Course) (first : Bool) → PutsUnder f a.changes → PutsUnder f b.changes → PutsUnder f (if first then a else b).changes
 course_under f a b true one other = one
 course_under f a b false one other = other
 
-import_under : (f most k : ℕ) (blobs : List (List ℕ)) (fault : Option ListFault) → PutsUnder f (import_from most k blobs fault).changes
-import_under f most k [] fault = end_under f k fault
-import_under f most k (blob ∷ blobs) fault =
+next_under : (f most k : ℕ) (after : List ℕ → Course) (r : Result (Option BlobAndRest) ListFault)
+    → ((rest : List ℕ) → PutsUnder f (after rest).changes) → PutsUnder f (import_next after most k r).changes
+next_under f most k after (Ok None) behind = tt
+next_under f most k after (Ok (Some found)) behind =
     course_under f (place_fails k (codes "too many headers")) _ (nat_lt most k) tt
-    (under_then f (imported_header k (header blob)).changes (import_from most (k + 1) blobs fault).changes (imported_under f k (header blob))
-    (import_under f most (k + 1) blobs fault))
+    (under_then f (imported_header k (header found.blob)).changes (after found.rest).changes (imported_under f k (header found.blob))
+    (behind found.rest))
+next_under f most k after (Err fault) behind = tt
+
+import_under : (f most k turns : ℕ) (bytes : List ℕ) → PutsUnder f (import_from most k turns bytes).changes
+import_under f most k zero bytes = tt
+import_under f most k (suc turns) bytes =
+    next_under f most k (import_from most (k + 1) turns) (list_head bytes) (λ rest. import_under f most (k + 1) turns rest)
 
 list_under : (f most : ℕ) (bytes : Option (List ℕ)) → PutsUnder f (import_list most bytes).changes
 list_under f most None = tt
-list_under f most (Some bytes) = import_under f most 1 (listed_headers bytes).blobs (listed_headers bytes).fault
+list_under f most (Some bytes) = import_under f most 1 (length bytes) bytes
 
 drop_under : (f : ℕ) (es : List (ℕ × Package)) → PutsUnder f (drop_each es).changes
 drop_under f [] = tt
@@ -94,12 +98,13 @@ task_fits paths now Rebuilding s ahead =
     under_fits 0 (task_course paths now Rebuilding s).changes s (omega arith) (drop_under 0 (above 0 (finite.entries s.packages)))
 task_fits paths now (Exercising n) s ahead = exercise_fits n s ahead
 
-either_fits : (s : State) (a b : Course) (first : Bool) → Fits a.changes s → Fits b.changes s → Fits (if first then a else b).changes s
-either_fits s a b true one other = one
-either_fits s a b false one other = other
+asked_fits : (paths : Paths) (now : ℕ) (task : Option TaskParts) (s : State) → Ahead s
+    → Fits (option_map_or (λ t. task_course paths now t s) task idle).changes s
+asked_fits paths now None s ahead = tt
+asked_fits paths now (Some task) s ahead = task_fits paths now task s ahead
 
 pub course_fits : (paths : Paths) (now : ℕ) (words : List (List ℕ)) (read : Option (AskParts × Tree)) (s : State) → Ahead s
     → Fits (course_of paths now words read s).changes s
 course_fits paths now words None s ahead = tt
 course_fits paths now words (Some asked) s ahead =
-    either_fits s (task_course paths now (asked_task words asked.0) s) idle (is_changing asked.0) (task_fits paths now (asked_task words asked.0) s ahead) tt
+    asked_fits paths now (asked_task words asked.0) s ahead

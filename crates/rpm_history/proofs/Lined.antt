@@ -1,8 +1,9 @@
 -- A command line more, by what `run` says of it.
 use Rattle.std.proofs.Common.{◌≡◌, ℕ, Bool, true, false, List, [], ◌∷◌, ◌++◌, length, ◌<◌, get_or, refl, sym, ap, subst, inl, inr, arith, ◌∙◌, Some}
-use Rattle.std.specs.Prelude.{Option, Some, None, IsTrue, if◌then◌else◌}
-use Rattle.rpm_history.proofs.Vocabulary.{Adding, asked_course, asked_task, AskParts, asks, Between, by_key, calls_of, changes_index, Course, course_of, Files}
-use Rattle.rpm_history.proofs.Vocabulary.{FromOneOf, idle, Importing, is_anew, is_changing, IsLawfulDatabase, OnlyReadsPackages, Line, LineIs, of_files, Outcome, Paths}
+use Rattle.std.specs.Prelude.{Option, Some, None, IsTrue, is_some}
+use Rattle.std.specs.Option.{option_map_or}
+use Rattle.rpm_history.proofs.Vocabulary.{Adding, asked_task, AskParts, asks, Between, by_key, calls_of, changes_index, Course, course_of, Files}
+use Rattle.rpm_history.proofs.Vocabulary.{FromOneOf, idle, Importing, is_anew, IsLawfulDatabase, OnlyReadsPackages, Line, LineIs, of_files, Outcome, Paths}
 use Rattle.rpm_history.proofs.Vocabulary.{reads_shelf, reopened, Replacing, RunCall, RepresentsState, IsLawfulAndSame, State, state, task_course, TaskParts, TellsCalls}
 use Rattle.rpm_history.proofs.Vocabulary.{ChangesWith, AnswersCommand, Run, run_of, setting_of, TellsLines, Tree, uses_in, uses_shelf}
 use Rattle.rpm_outside.specs.Frame.{images, CrashLeaves}
@@ -43,10 +44,11 @@ tells_calls shelf [] (o ∷ os) all = tt
 tells_calls shelf (l ∷ ls) (o ∷ os) all = (all.0, tells_calls shelf ls os all.1)
 
 -- a command that changes packages and reads package files uses it
-pub uses_reads : (words : List (List ℕ)) (a : AskParts) (tree : Tree) → asks words ≡ Some (a, tree) → reads_shelf (asked_task words a) ≡ true
-    → uses_shelf words ≡ true
-uses_reads words a tree asked reads =
-    ap (uses_in words) asked ∙ or_right (of_files a) (reads_shelf (asked_task words a)) reads
+pub uses_reads : (words : List (List ℕ)) (a : AskParts) (tree : Tree) (task : TaskParts) → asks words ≡ Some (a, tree) → asked_task words a ≡ Some task
+    → reads_shelf task ≡ true → uses_shelf words ≡ true
+uses_reads words a tree task asked is reads =
+    ap (uses_in words) asked ∙ or_right (of_files a) (option_map_or reads_shelf (asked_task words a) false)
+    (ap (λ (o : Option TaskParts). option_map_or reads_shelf o false) is ∙ reads)
 
 -- one that reads none goes the same course, whatever there is
 pub unread_course : (P : (State → Course) → Type 0) (p q : Paths) (now : ℕ) (t : TaskParts) → reads_shelf t ≡ false → P (task_course p now t)
@@ -68,9 +70,9 @@ calls_more (line ∷ lines) [] outcome d less = refl
 calls_more (line ∷ lines) (o ∷ os) outcome d less =
     ap (λ (calls : List RunCall). call_of line o ∷ calls) (calls_more lines os outcome d (omega (arith, less)))
 
-by_asked : {X : Type 0} (read : Option (AskParts × Tree)) → (read ≡ None → X) → ((a : AskParts) (tree : Tree) → read ≡ Some (a, tree) → X) → X
-by_asked None nothing command = nothing refl
-by_asked (Some asked) nothing command = command asked.0 asked.1 refl
+by_option : {T X : Type 0} (o : Option T) → (o ≡ None → X) → ((x : T) → o ≡ Some x → X) → X
+by_option None nothing some = nothing refl
+by_option (Some x) nothing some = some x refl
 
 module _ {D S O E : Type 0} (d : disk.Ghosts D) (told : IsTrue d.tells) (s : shelf.Ghosts S) (o : sink.Ghosts O) (e : sink.Ghosts E) (paths : Paths)
     (call : RunCall) (old new : Between D S O E) (tells : uses_shelf call.words ≡ true → IsTrue s.tells) (line : LineIs d s o e paths call old new) where
@@ -87,12 +89,12 @@ module _ {D S O E : Type 0} (d : disk.Ghosts D) (told : IsTrue d.tells) (s : she
   abbrev LineDid : (State → Course) → Type 0
   LineDid course = LineDoes r course
 
-  abbrev Changed : AskParts → (State → Course) → Type 0
-  Changed a course = ChangesWith r (is_anew (asked_task words a)) (changes_index (asked_task words a)) course
+  abbrev Changed : TaskParts → (State → Course) → Type 0
+  Changed task course = ChangesWith r (is_anew task) (changes_index task) course
 
-  -- by whether the command changes packages
-  abbrev course_if : AskParts → Bool → State → Course
-  course_if a b t = if b then asked_course paths call.moment words a t else idle
+  -- by what the command changes, if anything
+  abbrev course_if : Option TaskParts → State → Course
+  course_if o t = option_map_or (λ task. task_course paths call.moment task t) o idle
 
   unread : new.disk ≡ old.disk → Stood d (λ t. idle) old.disk new.disk
   unread same = record {
@@ -123,33 +125,36 @@ module _ {D S O E : Type 0} (d : disk.Ghosts D) (told : IsTrue d.tells) (s : she
   does a tree asked = line.answers.did.asked a tree asked
 
   -- the course is the same by what the shelf held at first
-  changed : (a : AskParts) (tree : Tree) → asks words ≡ Some (a, tree) → is_changing a ≡ true → Changed a (asked_course paths call.moment words a)
-  changed a tree asked any =
-      let reads = λ (yes : reads_shelf (asked_task words a) ≡ true). tells (uses_reads words a tree asked yes) in
-      let did : Changed a (asked_course (s.paths old.shelf) call.moment words a) = ((does a tree asked).changes any told reads).changed in
-      by_bool {X = Changed a (asked_course paths call.moment words a)} (reads_shelf (asked_task words a))
-      (λ yes. subst (λ (p : Paths). Changed a (asked_course p call.moment words a)) (line.shelf (reads yes)) did)
-      (λ no. unread_course (Changed a) (s.paths old.shelf) paths call.moment (asked_task words a) no did)
+  changed : (a : AskParts) (tree : Tree) (task : TaskParts) → asks words ≡ Some (a, tree) → asked_task words a ≡ Some task
+      → Changed task (task_course paths call.moment task)
+  changed a tree task asked is =
+      let reads = λ (yes : reads_shelf task ≡ true). tells (uses_reads words a tree task asked is yes) in
+      let did : Changed task (task_course (s.paths old.shelf) call.moment task) = ((does a tree asked).changes task is told reads).changed in
+      by_bool {X = Changed task (task_course paths call.moment task)} (reads_shelf task)
+      (λ yes. subst (λ (p : Paths). Changed task (task_course p call.moment task)) (line.shelf (reads yes)) did)
+      (λ no. unread_course (Changed task) (s.paths old.shelf) paths call.moment task no did)
 
-  asked_does : (a : AskParts) (tree : Tree) → asks words ≡ Some (a, tree) → LineDid (course_if a (is_changing a))
-  asked_does a tree asked = by_bool (is_changing a)
-      (λ any. subst (λ (b : Bool). LineDid (course_if a b)) (sym any)
-      (inr (is_anew (asked_task words a), changes_index (asked_task words a), changed a tree asked any)))
-      (λ none. subst (λ (b : Bool). LineDid (course_if a b)) (sym none) (inl (by_bool (by_key a)
+  asked_does : (a : AskParts) (tree : Tree) → asks words ≡ Some (a, tree) → LineDid (course_if (asked_task words a))
+  asked_does a tree asked = by_option (asked_task words a)
+      (λ none. subst (λ (o : Option TaskParts). LineDid (course_if o)) (sym none) (inl (by_bool (by_key a)
       (λ keyed. record {
         nothing = λ t. refl;
         pkg = ((does a tree asked).keyed keyed told).packages;
         crashes = ((does a tree asked).keyed keyed told).crashes;
       })
       (λ unkeyed. looked ((does a tree asked).looks unkeyed none)))))
+      (λ task is. subst (λ (o : Option TaskParts). LineDid (course_if o)) (sym is)
+      (inr (is_anew task, changes_index task, changed a tree task asked is)))
 
   pub line_does : LineDid (course_of paths call.moment words (asks words))
-  line_does = by_asked (asks words)
+  line_does = by_option (asks words)
       (λ none. subst (λ (read : Option (AskParts × Tree)). LineDid (course_of paths call.moment words read)) (sym none) (inl (unread (line.unread none).0)))
-      (λ a tree asked. subst (λ (read : Option (AskParts × Tree)). LineDid (course_of paths call.moment words read)) (sym asked) (asked_does a tree asked))
+      (λ both asked. subst (λ (read : Option (AskParts × Tree)). LineDid (course_of paths call.moment words read)) (sym asked)
+      (asked_does both.0 both.1 asked))
 
   -- of a command that changes packages
-  pub line_changes : (a : AskParts) (tree : Tree) → asks words ≡ Some (a, tree) → is_changing a ≡ true
-      → Changed a (course_of paths call.moment words (asks words))
-  line_changes a tree asked any = subst (λ (read : Option (AskParts × Tree)). Changed a (course_of paths call.moment words read)) (sym asked)
-      (subst (λ (b : Bool). Changed a (course_if a b)) (sym any) (changed a tree asked any))
+  pub line_changes : (a : AskParts) (tree : Tree) (task : TaskParts) → asks words ≡ Some (a, tree) → asked_task words a ≡ Some task
+      → Changed task (course_of paths call.moment words (asks words))
+  line_changes a tree task asked is =
+      subst (λ (read : Option (AskParts × Tree)). Changed task (course_of paths call.moment words read)) (sym asked)
+      (subst (λ (o : Option TaskParts). Changed task (course_if o)) (sym is) (changed a tree task asked is))

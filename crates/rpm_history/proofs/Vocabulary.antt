@@ -1,16 +1,19 @@
 -- The words of proofs, from one place.
-pub use Rattle.rpm_change.specs.Adding.{add_file, as_installed, put_found, put_installed, replacement}
-pub use Rattle.rpm_change.specs.Erasing.{erase_one, erasure}
-pub use Rattle.rpm_change.specs.Importing.{import_end, import_from, import_list, imported_header, listed_headers, max_headers, place_fails}
+pub use Rattle.rpm_change.specs.Adding.{as_installed}
+pub use Rattle.rpm_change.specs.laws.Courses.{add_file, erase_one, erasure, import_next, put_found, put_installed, replacement}
+pub use Rattle.rpm_change.specs.Importing.{import_from, import_list, imported_header, place_fails}
+pub use Rattle.rpm_commit.specs.Tasks.{max_headers}
+pub use Rattle.rpm_file.specs.List.{BlobAndRest, list_head}
 pub use Rattle.rpm_change.specs.Rebuilding.{drop_each}
 pub use Rattle.rpm_effects.specs.Progress.{Outputs}
 pub use Rattle.rpm_effects.specs.Steps.{apply_all, Course, idle, in_turn}
 pub use Rattle.rpm_change.specs.declared.add.Placing.{Placing}
-pub use Rattle.rpm_commit.specs.Changing.{after, AllRowsFit, ChangesWith, HasState, LeavesState, RowsFit, IsLawfulAndSameOr}
+pub use Rattle.rpm_commit.specs.Changing.{after, AllRowsFit, ChangesWith, HasState, LeavesState, RowsFit}
+pub use Rattle.rpm_commit.specs.laws.Words.{IsLawfulAndSameOr}
 pub use Rattle.rpm_commit.specs.Lawful.{AreLawfulDatabases, IsLawfulDatabase, IsLawfulAndSame}
 pub use Rattle.rpm_commit.specs.Run.{Run}
-pub use Rattle.rpm_commit.specs.Tasks.{Adding, asked_course, asked_task, changes_index, Erasing, Exercising, Importing, is_anew, Making, reads_shelf}
-pub use Rattle.rpm_commit.specs.Tasks.{Rebuilding, Replacing, task_course, TaskParts}
+pub use Rattle.rpm_command.specs.Tasks.{Adding, asked_task, Erasing, Exercising, Importing, Making, Rebuilding, Replacing, TaskParts}
+pub use Rattle.rpm_commit.specs.Tasks.{changes_index, is_anew, reads_shelf, task_course}
 pub use Rattle.rpm_db.specs.Changes.{Add, apply, Change, Erase, greatest_in, next, Put, Says}
 pub use Rattle.rpm_db.specs.State.{above, Bad, Good, Package, state, State}
 pub use Rattle.rpm_exercise.specs.Rounds.{made_blob, round_changes, round_turn}
@@ -33,8 +36,8 @@ pub use Rattle.rpm_outside.specs.Shelves.{bytes_at, Paths}
 pub use Rattle.rpm_outside.specs.laws.Moments.{leaves_then, leaves_weaker, started}
 pub use Rattle.rpm_pkgdb.specs.Store.{store, Store}
 pub use Rattle.rpm_pkgdb.specs.declared.slot.Damage.{Damage}
-pub use Rattle.rpm_print.specs.Asked.{by_key, is_changing, of_files}
-unfoldable pub use Rattle.rpm_print.specs.Asked.{asks}
+pub use Rattle.rpm_command.specs.Asked.{by_key, of_files}
+unfoldable pub use Rattle.rpm_command.specs.Asked.{asks}
 pub use Rattle.rpm_effects.specs.Classes.{is_done, is_done_or_fault}
 pub use Rattle.rpm_print.specs.Frame.{OnlyReadsPackages}
 pub use Rattle.rpm_effects.specs.declared.answer.Outcome.{Outcome}

@@ -1,7 +1,7 @@
 -- Several command lines on one disk, one after the other: what the database represents after them, and after a crash.
 -- On it rest `leads`, `cuts`, `kept` and `states` of `run_each`.
 use Rattle.std.specs.Prelude.{◌≡◌, ◌⊎◌, ℕ, List, [], ◌∷◌, ◌++◌, Bool, true, false, ◌||◌, IsTrue, Option, Some, None}
-use Rattle.std.specs.Prelude.{if◌then◌else◌}
+use Rattle.std.specs.Option.{option_map_or}
 use Rattle.std.specs.List.{AllByRecursion}
 use Rattle.rpm_outside.specs.Files.{Files}
 use Rattle.rpm_outside.specs.Logs.{reopened}
@@ -15,8 +15,9 @@ use Rattle.rpm_effects.specs.declared.answer.Outcome.{Outcome}
 use Rattle.rpm_effects.specs.declared.answer.Why.{Why}
 use Rattle.rpm_effects.specs.declared.answer.Why.TheVariants as why
 use Rattle.rpm_history.specs.declared.several.Line.{Line}
-use Rattle.rpm_print.specs.Asked.{of_files, is_changing, asks}
-use Rattle.rpm_commit.specs.Tasks.{asked_task, asked_course, reads_shelf}
+use Rattle.rpm_command.specs.Asked.{of_files, asks}
+use Rattle.rpm_command.specs.Tasks.{asked_task}
+use Rattle.rpm_commit.specs.Tasks.{reads_shelf, task_course}
 use Rattle.rpm_commit.specs.Lawful.{IsLawfulDatabase}
 use Rattle.rpm_commit.specs.Changing.{after}
 
@@ -25,7 +26,8 @@ use Rattle.rpm_commit.specs.Changing.{after}
 -- what it changes: nothing, unless its command changes packages
 abbrev pub course_of : Paths → ℕ → List (List ℕ) → Option (AskParts × Tree) → State → Course
 course_of paths now words None s = idle
-course_of paths now words (Some asked) s = if is_changing asked.0 then asked_course paths now words asked.0 s else idle
+course_of paths now words (Some asked) s =
+    option_map_or (λ task. task_course paths now task s) (asked_task words asked.0) idle
 
 -- the state after a command line whose changes were all made
 abbrev pub made_by : Paths → ℕ → List (List ℕ) → State → State
@@ -71,7 +73,7 @@ Cuts paths calls s t = (first rest : List RunCall) × (calls ≡ first ++ rest) 
 -- a command that reads package files
 abbrev pub uses_in : List (List ℕ) → Option (AskParts × Tree) → Bool
 uses_in words None = false
-uses_in words (Some asked) = of_files asked.0 || reads_shelf (asked_task words asked.0)
+uses_in words (Some asked) = of_files asked.0 || option_map_or reads_shelf (asked_task words asked.0) false
 
 -- whether a command line reads from the shelf
 abbrev pub uses_shelf : List (List ℕ) → Bool

@@ -11,7 +11,8 @@ use Rattle.rpm_db.specs.State.{state}
 use Rattle.rpm_words.specs.Ask.{AskParts}
 use Rattle.rpm_qfparse.specs.Tree.{Tree}
 use Rattle.rpm_effects.specs.Answers.{ClosingEnding}
-use Rattle.rpm_print.specs.Asked.{is_changing, asks}
+use Rattle.rpm_command.specs.Asked.{asks}
+use Rattle.rpm_command.specs.Tasks.{TaskParts, asked_task}
 use Rattle.rpm_effects.specs.Classes.{is_done}
 use Rattle.rpm_effects.specs.Endings.{status_of}
 use Rattle.rpm_print.specs.Closing.{closing}
@@ -78,8 +79,8 @@ module _ {D S O E : Type 0} (d : disk.Ghosts D) (s : shelf.Ghosts S) (o : sink.G
     -- each image since then represents a state of that moment, or one to which lines behind it lead
     pub since : CrashLeaves d mid.disk new.disk (RepresentsState (FromOneOf (images d mid.disk) (Cuts paths behind)))
     -- and after changes that were done for the state with all of them, or one to which lines behind it lead from there
-    pub acknowledged : (a : AskParts) (tree : Tree) → asks call.words ≡ Some (a, tree) → is_changing a ≡ true
-        → is_done call.outcome.why ≡ true
+    pub acknowledged : (a : AskParts) (tree : Tree) (task : TaskParts) → asks call.words ≡ Some (a, tree)
+        → asked_task call.words a ≡ Some task → is_done call.outcome.why ≡ true
         → IfOk (store (reopened (d.files old.disk)).pkg) (λ value. CrashLeaves d mid.disk new.disk
         (RepresentsState (Cuts paths behind (made_by paths call.moment call.words
         (state (reopened (d.files old.disk)).pkg value)))))

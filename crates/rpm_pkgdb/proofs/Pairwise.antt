@@ -2,7 +2,7 @@
 use Rattle.std.proofs.Common.{◌≡◌, inl, inr, ℕ, zero, suc, ◌+◌, ◌-◌, ◌<◌, List, [], ◌∷◌, length, take, map, true, false, Option, Some, None, refl, sym, ap, ◌∙◌, subst, arith, codes}
 use Rattle.rpm_pkgdb.proofs.Vocabulary.{AreSlotsApart, AreSound, begins_with_word, blank, damage_at, end_of, damage_of_slot, first, free, has_number, is_used, IsPlaced, list_any}
 use Rattle.rpm_pkgdb.proofs.Vocabulary.{slots_meet, option_map, option_or, own_reason, range_with_len, shared_reason, Slot, slot_at, slot_fault, slot_of, slots_in}
-use Rattle.rpm_pkgdb.proofs.Vocabulary.{table_fault, unit_at, Units, used_reason}
+use Rattle.rpm_pkgdb.proofs.Vocabulary.{table_fault, table_is_first, unit_at, Units, used_reason}
 use Rattle.std.proofs.lemmas.List.{get_or-take, get_or_past, length-take}
 use Rattle.std.proofs.lemmas.Bool.{cases_lt}
 use Rattle.std.proofs.lemmas.Bool.Decides.{nat_tests}
@@ -123,15 +123,16 @@ module _ (pages units : ℕ) (us : Units) where
   length_before k below = omega (arith, count_in (take k us), length-take k us)
 
   faults_none : table_fault pages units us ≡ None → (k : ℕ) → k < length us → slot_fault pages units (before k) (unit_at us k) ≡ None
-  unfolding table_fault damage_of_slot
+  unfolding damage_of_slot
   faults_none none k below =
-      let at : damage_of_slot pages units us (0 + k) ≡ None = first_none (damage_of_slot pages units us) 0 (length us) none k below in
+      let at : damage_of_slot pages units us (0 + k) ≡ None =
+      first_none (damage_of_slot pages units us) 0 (length us) (table_is_first pages units us ∙ none) k below in
       let e : 0 + k ≡ k = omega arith in
       subst (λ (i : ℕ). slot_fault pages units (slots_in (take i us)) (unit_at us i) ≡ None) e at
 
   none_faults : ((k : ℕ) → k < length us → slot_fault pages units (before k) (unit_at us k) ≡ None) → table_fault pages units us ≡ None
-  unfolding table_fault damage_of_slot
-  none_faults each = none_first (damage_of_slot pages units us) 0 (length us) (λ k below.
+  unfolding damage_of_slot
+  none_faults each = sym (table_is_first pages units us) ∙ none_first (damage_of_slot pages units us) 0 (length us) (λ k below.
       let e : k ≡ 0 + k = omega arith in
       subst (λ (i : ℕ). slot_fault pages units (slots_in (take i us)) (unit_at us i) ≡ None) e (each k below))
 

@@ -18,5 +18,5 @@ third = refl
 
 -- number 2 is erased, and the next one takes its slot and its blocks
 again : put_in None 80 (without_number 2 (store 4 three)) ≡ Some (store 5 (slot 1 256 ∷ slot 4 263 ∷ slot 3 270 ∷ []))
-unfolding store slot three freed_slots placement placed_in page_moves first_free first_fit
+unfolding store slot three placement placed_in page_moves first_free first_fit
 again = refl

@@ -87,7 +87,6 @@ module _ (pages units : ℕ) (slots : List Slot) (sound : AreSound pages units s
 
   -- the slot of a number is set free at its place
   pub freed_is_set : (n k : ℕ) → has_number n (slot_at slots k) ≡ true → freed_slots n slots ≡ set slots k free
-  unfolding freed_slots
   freed_is_set n k has =
       same_lists (map (freed_slot n) slots) (set slots k free) (length_map slots ∙ sym (length-set slots k free)) (λ j d below.
       let lt : j < length slots = omega (arith, length_map slots) in

@@ -25,36 +25,48 @@ pub use Rattle.rpm_pkgdb.specs.laws.BlobLaws.{get-blobs, get-blobs-frames}
 pub use Rattle.rpm_pkgdb.specs.Blobs.{blob_in, blocks_at, blocks_for, Frame, frame_of, frames, is_framed, tail}
 unfoldable pub use Rattle.rpm_pkgdb.specs.Blobs.{blobs, is_head, is_tail}
 unfoldable pub use Rattle.rpm_pkgdb.specs.Checksums.{adler, checksum_holds, sums}
-pub use Rattle.rpm_pkgdb.specs.Costs.{head_cost, opening_cost}
-pub use Rattle.rpm_pkgdb.specs.Damages.{damage_at, first, slot_fault, used_reason}
-unfoldable pub use Rattle.rpm_pkgdb.specs.Damages.{damage_of_slot, head_reason, own_reason, shared_reason, slot_units, table_fault}
+pub use Rattle.rpm_pkgdb.specs.Costs.{opening_cost}
+pub use Rattle.rpm_pkgdb.specs.laws.Parts.{head_cost}
+pub use Rattle.rpm_pkgdb.specs.Damages.{damage_at, slot_fault, used_reason}
+pub use Rattle.rpm_pkgdb.specs.laws.Runs.{first}
+unfoldable pub use Rattle.rpm_pkgdb.specs.Damages.{head_reason, own_reason, shared_reason, slot_units, table_fault}
+unfoldable pub use Rattle.rpm_pkgdb.specs.laws.Runs.{damage_of_slot}
 pub use Rattle.rpm_pkgdb.specs.Frame.{IsWritten, pkg, Quiet, CrashLeavesFile}
 pub use Rattle.rpm_pkgdb.specs.Framing.{framed, next_unit, padding, summed_bytes}
 unfoldable pub use Rattle.rpm_pkgdb.specs.Framing.{head_of, tail_of}
 pub use Rattle.rpm_pkgdb.specs.Freed.{AreFreed, HasBlock, KeepsBlank}
-pub use Rattle.rpm_pkgdb.specs.Growing.{after_move, after_moves, AreBehind, AreMoves, CanAdd, grown, IsNextMove, moved_slot, moving_cost, NeedsPage, next_end}
+pub use Rattle.rpm_pkgdb.specs.Growing.{after_move, after_moves, AreBehind, AreMoves, CanAdd, grown, IsNextMove, moving_cost, NeedsPage, next_end}
+pub use Rattle.rpm_pkgdb.specs.laws.Parts.{moved_slot}
 pub use Rattle.rpm_pkgdb.specs.Pairs.{MapWithoutOne, find_in, SlotIndex, IsAt, IsGapFor, IsGreatest, IsNextFound, IsStrictlySorted, key_at_place, Pairs}
-pub use Rattle.rpm_pkgdb.specs.Placing.{all_moves, fits, is_first, one_before, placed_spare, Placement, placement_of, put_in, replaced_by, with_placed}
+pub use Rattle.rpm_pkgdb.specs.Placing.{fits, placed_spare, Placement, placement_of, put_in, replaced_by, with_placed}
+pub use Rattle.rpm_pkgdb.specs.laws.Parts.{all_moves, is_first, one_before}
 unfoldable pub use Rattle.rpm_pkgdb.specs.Placing.{count_before, first_fit, first_free, first_used, moves_from, next_move, page_moves, placement, placed_in}
 pub use Rattle.rpm_pkgdb.specs.Planned.{CantMove, HoldsPage, IsFor, IsStoreFull, IsPlan, moves_of}
 pub use Rattle.rpm_pkgdb.specs.Planned.IsStoreFull.{NoMove, NoRoom}
-pub use Rattle.rpm_pkgdb.specs.Plans.{AreAllUsed, FitsSlots, FitsNowhere, IsFirstFree, IsLeast, IsTarget, slot_for}
+pub use Rattle.rpm_pkgdb.specs.Plans.{AreAllUsed, FitsSlots, FitsNowhere, IsFirstFree, IsLeast, IsTarget}
+pub use Rattle.rpm_pkgdb.specs.laws.Parts.{slot_for}
 pub use Rattle.rpm_pkgdb.specs.Puts.{IsPut}
 pub use Rattle.rpm_pkgdb.specs.Quiet.{Anything, StoreBeforeOrAfter, BlobMap, HasSlot, IsFirstPage, IsQuiet, SameBlocks, RepresentsStore, Represents, with_free}
-pub use Rattle.rpm_pkgdb.specs.Reaches.{last_end, store_end}
+pub use Rattle.rpm_pkgdb.specs.Reaches.{store_end}
+pub use Rattle.rpm_pkgdb.specs.laws.Parts.{last_end}
 pub use Rattle.rpm_pkgdb.specs.Rewritten.{EraseCrashes, IsErased, IsRaised}
-pub use Rattle.rpm_pkgdb.specs.Slots.{end_of, free, greatest_number, has_number, is_used, IsPackageNumber, slots_meet, slot_at, slot_of, slot_with}
+pub use Rattle.rpm_pkgdb.specs.Slots.{end_of, free, has_number, is_used, IsPackageNumber, slots_meet, slot_at, slot_of, slot_with}
+pub use Rattle.rpm_pkgdb.specs.laws.Parts.{greatest_number}
 unfoldable pub use Rattle.rpm_pkgdb.specs.Slots.{slots_in}
 pub use Rattle.rpm_pkgdb.specs.Stays.{AllStay, blocks_with, OthersStay, SameOutside, StaysBut}
-pub use Rattle.rpm_pkgdb.specs.Store.{blank_store, in_file, is_blank, KeepsStore, made_or_damaged, made_store, next_number, OpenIs, DamageIs, SaysHere, Store}
-pub use Rattle.rpm_pkgdb.specs.Store.{store_of_pages, unless}
+pub use Rattle.rpm_pkgdb.specs.Store.{blank_store, in_file, is_blank, KeepsStore, next_number, OpenIs, DamageIs, SaysHere, Store}
+pub use Rattle.rpm_pkgdb.specs.laws.Parts.{made_or_damaged, made_store}
+pub use Rattle.rpm_pkgdb.specs.Store.{store_of_pages}
+pub use Rattle.rpm_pkgdb.specs.laws.Parts.{unless}
 unfoldable pub use Rattle.rpm_pkgdb.specs.Store.{store}
 pub use Rattle.rpm_pkgdb.specs.Undamaged.{AreSlotsApart, AreSound, IsHeadUnit, IsLawfulCount, IsMade, IsPlaced, IsSlotUnit}
-pub use Rattle.rpm_pkgdb.specs.Words.{begins_with_word, is_nonzero}
+pub use Rattle.rpm_pkgdb.specs.Words.{begins_with_word}
+pub use Rattle.rpm_pkgdb.specs.laws.Parts.{is_nonzero}
 unfoldable pub use Rattle.rpm_pkgdb.specs.Words.{word}
-pub use Rattle.rpm_pkgdb.specs.Written.{AreZeros, without_number, ErasesTo, field_after, freed_slot, made_new, MakesTo, next_field, PutsTo, RaisesTo, with_put}
-pub use Rattle.rpm_pkgdb.specs.Written.{with_generation, with_next, with_plan, with_spare}
-unfoldable pub use Rattle.rpm_pkgdb.specs.Written.{freed_slots}
+pub use Rattle.rpm_pkgdb.specs.Written.{AreZeros, without_number, ErasesTo, made_new, MakesTo, next_field, PutsTo, RaisesTo, with_put}
+pub use Rattle.rpm_pkgdb.specs.laws.Parts.{field_after, freed_slot, freed_slots}
+pub use Rattle.rpm_pkgdb.specs.Written.{with_generation, with_plan, with_spare}
+pub use Rattle.rpm_pkgdb.specs.laws.Parts.{with_next}
 pub use Rattle.rpm_pkgdb.specs.declared.added_page.Move.{Move}
 pub use Rattle.rpm_pkgdb.specs.declared.blob.GetFault.{GetFault}
 pub use Rattle.rpm_pkgdb.specs.declared.blob.GetFault.TheVariants.{Bad, NoSuch}
@@ -88,7 +100,7 @@ pub use Rattle.rpm_pkgdb.specs.inner.Putting.{IsBlobPut}
 pub use Rattle.rpm_pkgdb.specs.inner.Ranges.{AreRangesOf, AreRangesTo, Forgets, ForgetsSlot, HasStart, HasUsed, IsFreeIn, range_of_slot, HasRange, UsedSlotOf}
 pub use Rattle.rpm_pkgdb.specs.inner.Reading.{slots_with, AreRead, EndOfUnits, fault_of, IsAll, AreSlotsRead}
 pub use Rattle.rpm_pkgdb.specs.inner.Rising.{Awaits, free_from, PairsInOrder, IsInOrder}
-pub use Rattle.rpm_pkgdb.specs.laws.Runs.{option_or-assoc, range_next, run, run-append, same_map, table_is_run}
+pub use Rattle.rpm_pkgdb.specs.laws.Runs.{option_or-assoc, range_next, run, run-append, same_map, table_is_first, table_is_run}
 pub use Rattle.rpm_pkgdb.specs.inner.Settings.{blocks_of, CanMove, CanSet, NoShorter, RepresentsSlot, WhileMoved, with_slot}
 pub use Rattle.rpm_pkgdb.specs.inner.Still.{RepresentsBlobs}
 pub use Rattle.rpm_pkgdb.specs.inner.Tables.{AreBounded, AreNumbered, AreOwn}

@@ -40,8 +40,7 @@ is_framed n count f = is_head n count f.head && is_tail (word 3 f.head) f.rest
 
 -- the blocks that a slot names
 abbrev pub blocks_at : Slot → Units → Frame
-blocks_at s file =
-    record { head = unit_at file s.offset; rest = bytes_of (take (s.count - 1) (drop (s.offset + 1) file)) }
+blocks_at s file = record { head = unit_at file s.offset; rest = bytes_of (take (s.count - 1) (drop (s.offset + 1) file)) }
 
 -- what stands in the blocks of this number's slot, and None where its framing is broken
 abbrev pub frame_of : ℕ → Slot → Units → Option Frame
@@ -55,10 +54,7 @@ frames file store n = option_map (λ s. frame_of n s file) (slot_with n store.sl
 abbrev pub blob_in : Frame → List ℕ
 blob_in f = take (word 3 f.head) f.rest
 
--- a slot's number, and its blob; None where the framing is broken
-abbrev pub entry_of_slot : Units → Slot → ℕ × Option (List ℕ)
-entry_of_slot file s = (s.number, option_map blob_in (frame_of s.number s file))
-
--- the map of all numbers to their blobs
+-- the map of all numbers to their blobs, where None is a broken framing
 unfoldable pub blobs : Units → Store → finite.FinMap nat_cmp (Option (List ℕ))
-blobs file store = finite.from_entries (map (entry_of_slot file) (filter is_used store.slots))
+blobs file store = finite.from_entries
+    (map (λ s. (s.number, option_map blob_in (frame_of s.number s file))) (filter is_used store.slots))

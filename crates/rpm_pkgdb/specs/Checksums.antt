@@ -4,20 +4,14 @@ use Rattle.std.specs.List.{range_with_len}
 use Rattle.std.specs.Option.{option_map}
 use Rattle.rpm_outside.specs.Files.{Units}
 use Rattle.rpm_pkgdb.specs.Words.{word}
+use Rattle.rpm_pkgdb.specs.Slots.{slot_with}
 use Rattle.rpm_pkgdb.specs.Store.{Store}
-use Rattle.rpm_pkgdb.specs.Blobs.{Frame, tail, frames}
+use Rattle.rpm_pkgdb.specs.Blobs.{Frame, tail, frame_of}
 
--- one and all bytes
-abbrev pub first_sum : List ℕ → ℕ
-first_sum bytes = 1 + sum bytes
-
--- the first sums after each byte
-abbrev pub second_sum : List ℕ → ℕ
-second_sum bytes = sum (map (λ k. first_sum (take k bytes)) (range_with_len 1 (length bytes)))
-
--- the Adler-32 checksum
+-- the Adler-32 checksum: the first sum is of one and all bytes, the second of the first sums after each byte
 unfoldable pub adler : List ℕ → ℕ
-adler bytes = second_sum bytes % 65521 * 65536 + first_sum bytes % 65521
+adler bytes =
+    sum (map (λ k. 1 + sum (take k bytes)) (range_with_len 1 (length bytes))) % 65521 * 65536 + (1 + sum bytes) % 65521
 
 -- the stored checksum is that of head, bytes and padding
 unfoldable pub checksum_holds : Frame → Bool
@@ -25,7 +19,8 @@ checksum_holds f = word 0 (tail f.rest) == adler (f.head ++ take (length f.rest 
 
 -- a number's checksum holds or not: None where no slot has the number, Some None where the framing is broken
 abbrev pub checksums_hold : Units → Store → ℕ → Option (Option Bool)
-checksums_hold file store n = option_map (option_map checksum_holds) (frames file store n)
+checksums_hold file store n =
+    option_map (option_map checksum_holds) (option_map (λ s. frame_of n s file) (slot_with n store.slots))
 
 -- a checksum has two sums, which some bytes carry on
 unfoldable pub sums : ℕ → ℕ → List ℕ → ℕ × ℕ

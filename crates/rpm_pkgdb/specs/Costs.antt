@@ -13,42 +13,34 @@ use Rattle.rpm_pkgdb.specs.Slots.{is_used, has_number, slot_with}
 use Rattle.rpm_pkgdb.specs.Damages.{head_reason}
 use Rattle.rpm_pkgdb.specs.Store.{Store, is_blank}
 
--- unit 0 alone, or all slot pages where nothing is wrong with it
-abbrev pub head_cost : Option Reason → List ℕ → ℕ
-head_cost (Some reason) head = 16
-head_cost None head = 4096 * word 3 head
-
--- what opening reads at most of this file
+-- what opening reads at most of this file: unit 0 alone, or all slot pages where nothing is wrong with it
 abbrev pub opening_cost : Units → ℕ
-opening_cost file =
-    if is_blank file then 16 else head_cost (head_reason (length file) (unit_at file 0)) (unit_at file 0)
+opening_cost file = if is_blank file then 16
+    else elim (head_reason (length file) (unit_at file 0)) [ Some reason ↦ 16 | None ↦ 4096 * word 3 (unit_at file 0) ]
 
--- the bytes of a package's blocks, none where there is no slot
-abbrev pub cost_of : Option Slot → ℕ
-cost_of None = 0
-cost_of (Some s) = 16 * s.count
-
--- the bytes of a number's blocks
+-- the bytes of a number's blocks, none where there is no slot
 abbrev pub cost : ℕ → Store → ℕ
-cost n store = cost_of (slot_with n store.slots)
-
--- how many blocks some slots have
-abbrev pub block_count : List Slot → ℕ
-block_count slots = sum_by (λ s. s.count) slots
-
--- whether a slot has a package of at most this number
-abbrev pub is_up_to : ℕ → Slot → Bool
-is_up_to n s = is_used s && nat_le s.number n
+cost n store = elim (slot_with n store.slots) [ None ↦ 0 | Some s ↦ 16 * s.count ]
 
 -- the bytes of the blocks of all numbers up to this one
 unfoldable pub cost_to : ℕ → Store → ℕ
-cost_to n store = 16 * block_count (filter (is_up_to n) store.slots)
+cost_to n store = 16 * sum_by (λ s. s.count) (filter (λ s. is_used s && nat_le s.number n) store.slots)
 
 -- the bytes of the blocks of all numbers
 unfoldable pub cost_all : Store → ℕ
-cost_all store = 16 * block_count (filter is_used store.slots)
+cost_all store = 16 * sum_by (λ s. s.count) (filter is_used store.slots)
 
 -- ---- laws
+
+abbrev block_count : List Slot → ℕ
+block_count slots = sum_by (λ s. s.count) slots
+
+abbrev cost_of : Option Slot → ℕ
+cost_of None = 0
+cost_of (Some s) = 16 * s.count
+
+abbrev is_up_to : ℕ → Slot → Bool
+is_up_to n s = is_used s && nat_le s.number n
 
 -- one slot more
 counted : (p : Slot → Bool) (s : Slot) (ss : List Slot)

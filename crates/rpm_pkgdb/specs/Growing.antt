@@ -9,13 +9,9 @@ use Rattle.rpm_pkgdb.specs.Slots.{slot_at, is_used, free}
 use Rattle.rpm_pkgdb.specs.Store.{Store}
 use Rattle.rpm_pkgdb.specs.Plans.{IsLeast, AreAllUsed}
 
--- a slot whose blocks stand elsewhere
-abbrev pub moved_slot : Slot → ℕ → Slot
-moved_slot old to = record old { offset = to }
-
--- the slots after a move
+-- the slots after a move, where a slot's blocks stand elsewhere
 abbrev pub after_move : List Slot → Move → List Slot
-after_move slots m = slice_set slots m.place (moved_slot (slot_at slots m.place) m.to)
+after_move slots m = slice_set slots m.place (record (slot_at slots m.place) { offset = m.to })
 
 -- the slots after a list of moves
 abbrev pub after_moves : List Slot → List Move → List Slot
@@ -54,19 +50,12 @@ abbrev pub NeedsPage : Store → Bool → Option (List Move) → Type 0
 NeedsPage value is_new None = is_new ≡ true → ¬ AreAllUsed value.slots
 NeedsPage value is_new (Some moves) = (is_new ≡ true) × CanAdd value moves
 
--- the count of pages after a growth, where there is one
-abbrev pub pages_after : Option (List Move) → ℕ → ℕ
-pages_after None pages = pages
-pages_after (Some moves) pages = pages + 1
-
--- the slots after a growth, with those of the new page
-abbrev pub slots_after : Option (List Move) → List Slot → List Slot
-slots_after None slots = slots
-slots_after (Some moves) slots = after_moves slots moves ++ replicate 256 free
-
--- the value with a slot page more once these moves are made, if there are any
+-- the value with a slot page more, whose slots are free, once these moves are made, if there are any
 abbrev pub grown : Option (List Move) → Store → Store
-grown moves value = record value { pages = pages_after moves value.pages; slots = slots_after moves value.slots }
+grown moves value = record value {
+  pages = elim moves [ None ↦ value.pages | Some made ↦ value.pages + 1 ];
+  slots = elim moves [ None ↦ value.slots | Some made ↦ after_moves value.slots made ++ replicate 256 free ];
+}
 
 -- the bytes of the blocks that are moved
 abbrev pub moving_cost : List Slot → Option (List Move) → ℕ

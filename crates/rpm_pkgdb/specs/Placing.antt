@@ -11,7 +11,7 @@ use Rattle.rpm_pkgdb.specs.declared.plan.Plan.{Plan}
 use Rattle.rpm_pkgdb.specs.Slots.{slot_at, is_used, end_of, slots_meet, has_number}
 use Rattle.rpm_pkgdb.specs.Store.{Store, next_number}
 use Rattle.rpm_pkgdb.specs.Blobs.{blocks_for}
-use Rattle.rpm_pkgdb.specs.Growing.{after_move, grown, next_end}
+use Rattle.rpm_pkgdb.specs.Growing.{after_move, grown}
 use Rattle.rpm_pkgdb.specs.Planned.{moves_of}
 use Rattle.rpm_pkgdb.specs.Written.{with_put, with_generation, with_spare}
 
@@ -27,18 +27,14 @@ first_fit slots count from = reduce min (filter (fits slots count) (from ∷ fil
 
 -- ---- moves
 
--- a used slot whose blocks begin before those of all others
-abbrev pub is_first : List Slot → Slot → Bool
-is_first slots s = is_used s && not (list_any (λ t. is_used t && nat_lt t.offset s.offset) slots)
-
--- the first used slot by offset has this place
+-- the place of the first used slot by offset: no other's blocks begin before its own
 unfoldable pub first_used : List Slot → ℕ
-first_used slots = position_or_len (is_first slots) slots
+first_used slots =
+    position_or_len (λ s. is_used s && not (list_any (λ t. is_used t && nat_lt t.offset s.offset) slots)) slots
 
 -- the first used slot is moved next, to the first fit from a block on
 unfoldable pub next_move : List Slot → ℕ → Option Move
-next_move slots end =
-    option_map (λ to. record { place = first_used slots; to = to })
+next_move slots end = option_map (λ to. record { place = first_used slots; to = to })
     (first_fit slots (slot_at slots (first_used slots)).count end)
 
 -- a count of moves is made one after the other, each the next one after those before it
@@ -47,17 +43,9 @@ moves_from zero slots end = Some []
 moves_from (suc n) slots end = option_and_then
     (λ m. option_map (λ moves. m ∷ moves) (moves_from n (after_move slots m) end)) (next_move slots end)
 
--- one where a slot's blocks begin before a block, else zero
-abbrev pub one_before : ℕ → Slot → ℕ
-one_before end s = if is_used s && nat_lt s.offset end then 1 else 0
-
 -- how many used ranges begin before this block
 unfoldable pub count_before : ℕ → List Slot → ℕ
-count_before end slots = sum_by (one_before end) slots
-
--- the moves of all ranges that begin before a block to places from it on, and None where one finds none
-abbrev pub all_moves : List Slot → ℕ → Option (List Move)
-all_moves slots end = moves_from (count_before end slots) slots end
+count_before end slots = sum_by (λ s. if is_used s && nat_lt s.offset end then 1 else 0) slots
 
 -- ---- a blob
 
@@ -65,10 +53,11 @@ all_moves slots end = moves_from (count_before end slots) slots end
 unfoldable pub first_free : List Slot → ℕ
 first_free slots = position_or_len (λ s. not (is_used s)) slots
 
--- the moves of the page that a new number asks for, if it asks for one, and None where they find no place
+-- the moves of the page that a new number asks for, if it asks for one, and None where they find no place: those of
+-- all ranges that begin before the end of the slot pages and one more, to places from it on
 unfoldable pub page_moves : Store → Option (Option (List Move))
-page_moves value = if nat_lt (first_free value.slots) (length value.slots) then Some None
-    else option_map Some (all_moves value.slots (next_end value))
+page_moves value = if nat_lt (first_free value.slots) (length value.slots) then Some None else option_map Some
+    (moves_from (count_before (256 * (value.pages + 1)) value.slots) value.slots (256 * (value.pages + 1)))
 
 -- number, slot and blocks of a blob, and the moves of the slot page that is added for it, if one is
 pub record Placement : Type 0 where
@@ -89,13 +78,9 @@ placement None size value =
     option_and_then (placed_in value (next_number value) (first_free value.slots) size true) (page_moves value)
 placement (Some n) size value = placed_in value n (position_or_len (has_number n) value.slots) size false None
 
--- the store once the blob was put there
-abbrev pub with_placed : Placement → Store → Store
-with_placed p value = with_put p.target (grown p.moves value)
-
 -- the store once a blob of this length was put, and None where the store is full
 abbrev pub put_in : Option ℕ → ℕ → Store → Option Store
-put_in n size value = option_map (λ p. with_placed p value) (placement n size value)
+put_in n size value = option_map (λ p. with_put p.target (grown p.moves value)) (placement n size value)
 
 -- where a plan puts its blob
 abbrev pub placement_of : Plan → Placement
@@ -106,6 +91,10 @@ abbrev pub replaced_by : Target → Option ℕ
 replaced_by target = if target.is_new then None else Some target.number
 
 -- ---- laws: places look at slots, pages and number field alone
+
+-- the store once the blob was put there
+abbrev pub with_placed : Placement → Store → Store
+with_placed p value = with_put p.target (grown p.moves value)
 
 pub placed_generation : (n : Option ℕ) (size generation : ℕ) (value : Store)
     → placement n size (with_generation generation value) ≡ placement n size value

@@ -40,7 +40,3 @@ pub record IsTarget (value : Store) (target : Target) : Type 0 where
   pub below : target.place < length value.slots
   pub few : target.length ≤ 68157432
   pub start : IsLeast value.slots (blocks_for target.length) (256 * value.pages) target.start
-
--- the slot that is written
-abbrev pub slot_for : Target → Slot
-slot_for target = record { number = target.number; offset = target.start; count = blocks_for target.length }

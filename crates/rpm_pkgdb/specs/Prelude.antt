@@ -16,13 +16,15 @@ pub use Rattle.rpm_pkgdb.specs.Costs.{cost, opening_cost}
 pub use Rattle.rpm_pkgdb.specs.Damages.{damage_at, head_reason, own_reason, shared_reason, slot_units, table_fault}
 pub use Rattle.rpm_pkgdb.specs.Frame.{IsWritable, Quiet, CrashLeavesFile, pkg}
 pub use Rattle.rpm_pkgdb.specs.Framing.{framed, head_of, next_unit, padding, summed_bytes, tail_of}
-pub use Rattle.rpm_pkgdb.specs.Growing.{AreBehind, CanAdd, NeedsPage, grown, moved_slot, moving_cost, next_end}
+pub use Rattle.rpm_pkgdb.specs.Growing.{AreBehind, CanAdd, NeedsPage, grown, moving_cost, next_end}
+pub use Rattle.rpm_pkgdb.specs.laws.Parts.{moved_slot}
 pub use Rattle.rpm_pkgdb.specs.Pairs.{MapWithoutOne, IsAt, IsGapFor, IsGreatest, IsNextFound, IsStrictlySorted, Pairs}
 pub use Rattle.rpm_pkgdb.specs.Pairs.{find_in}
 pub use Rattle.rpm_pkgdb.specs.Pairs.{key_at_place}
 pub use Rattle.rpm_pkgdb.specs.Planned.{CantMove, HoldsPage, IsFor, IsStoreFull, IsPlan, moves_of}
 pub use Rattle.rpm_pkgdb.specs.Planning.{HasMoreRoom, HasNoPlace, IsPlanned}
-pub use Rattle.rpm_pkgdb.specs.Plans.{AreAllUsed, FitsNowhere, IsFirstFree, IsLeast, IsTarget, slot_for}
+pub use Rattle.rpm_pkgdb.specs.Plans.{AreAllUsed, FitsNowhere, IsFirstFree, IsLeast, IsTarget}
+pub use Rattle.rpm_pkgdb.specs.laws.Parts.{slot_for}
 pub use Rattle.rpm_pkgdb.specs.Puts.{AfterPut, IsPut, PutCrashes}
 pub use Rattle.rpm_pkgdb.specs.Quiet.{Anything, StoreBeforeOrAfter, HasSlot, IsFirstPage, with_free}
 pub use Rattle.rpm_pkgdb.specs.Rewritten.{EraseCrashes, IsErased, IsMadeNew, IsRaised}
@@ -33,8 +35,10 @@ pub use Rattle.rpm_pkgdb.specs.Store.{KeepsStore, OpenIs, DamageIs, SaysHere, St
 pub use Rattle.rpm_pkgdb.specs.Store.{store}
 pub use Rattle.rpm_pkgdb.specs.Store.{store_of_pages}
 pub use Rattle.rpm_pkgdb.specs.Undamaged.{AreSound, IsHeadUnit, IsSlotUnit}
-pub use Rattle.rpm_pkgdb.specs.Words.{is_nonzero, word}
-pub use Rattle.rpm_pkgdb.specs.Written.{MakesTo, RaisesTo, without_number, field_after, made_new, next_field}
+pub use Rattle.rpm_pkgdb.specs.Words.{word}
+pub use Rattle.rpm_pkgdb.specs.laws.Parts.{is_nonzero}
+pub use Rattle.rpm_pkgdb.specs.Written.{MakesTo, RaisesTo, without_number, made_new, next_field}
+pub use Rattle.rpm_pkgdb.specs.laws.Parts.{field_after}
 pub use Rattle.rpm_pkgdb.specs.Written.{stopped_store}
 pub use Rattle.rpm_pkgdb.specs.Written.{with_put, with_generation, with_plan, with_spare}
 pub use Rattle.rpm_pkgdb.specs.declared.slot.Slot.{Slot}

@@ -42,10 +42,10 @@ has_number n s = is_used s && (s.number == n)
 abbrev pub slot_with : ℕ → List Slot → Option Slot
 slot_with n slots = find (has_number n) slots
 
--- the greatest number of a used slot, and 0 where none is used
-abbrev pub greatest_number : List Slot → ℕ
-greatest_number [] = 0
-greatest_number (s ∷ ss) = max (if is_used s then s.number else 0) (greatest_number ss)
+-- the greatest that is said of a used slot, and 0 where none is used
+abbrev pub greatest : (Slot → ℕ) → List Slot → ℕ
+greatest said [] = 0
+greatest said (s ∷ slots) = max (if is_used s then said s else 0) (greatest said slots)
 
 -- a number that a package can have
 abbrev pub IsPackageNumber : ℕ → Type 0

@@ -1,5 +1,5 @@
 -- What Packages.db says: its slots, or its first damage.
-use Rattle.std.specs.Prelude.{◌≡◌, ℕ, ◌+◌, List, [], length, Bool, false, not, if◌then◌else◌, Option, Some, None}
+use Rattle.std.specs.Prelude.{◌≡◌, ℕ, ◌+◌, List, [], length, Bool, false, not, ◌==◌, if◌then◌else◌, Option, Some, None}
 use Rattle.std.specs.Prelude.{Result, Ok, Err, max}
 use Rattle.std.specs.List.{list_any}
 use Rattle.rpm_outside.specs.Files.{Units, unit_at}
@@ -8,8 +8,8 @@ use Rattle.rpm_pkgdb.specs.declared.slot.Damage.{Damage}
 use Rattle.rpm_pkgdb.specs.declared.slot.Reason.{Reason}
 use Rattle.rpm_pkgdb.specs.declared.slot.OpenFault.{OpenFault}
 use Rattle.rpm_pkgdb.specs.declared.slot.OpenFault.TheVariants.{Damaged, DiskFault, NoMemory}
-use Rattle.rpm_pkgdb.specs.Words.{word, is_nonzero}
-use Rattle.rpm_pkgdb.specs.Slots.{slots_in, greatest_number}
+use Rattle.rpm_pkgdb.specs.Words.{word}
+use Rattle.rpm_pkgdb.specs.Slots.{slots_in, greatest}
 use Rattle.rpm_pkgdb.specs.Damages.{damage_at, head_reason, slot_units, table_fault}
 
 -- A blank file is the store of no pages, whose next number is 1. The last two are of a value alone: how many ranges it
@@ -24,19 +24,11 @@ pub record Store : Type 0 where
 
 -- what the file says of a store
 abbrev pub in_file : Store → Store
-in_file store =
-    record {
-      generation = store.generation;
-      pages = store.pages;
-      field = store.field;
-      slots = store.slots;
-      spare = 0;
-      is_stopped = false;
-    }
+in_file store = record store { spare = 0; is_stopped = false }
 
 -- the greater of the field and one above the greatest number
 abbrev pub next_number : Store → ℕ
-next_number store = max store.field (greatest_number store.slots + 1)
+next_number store = max store.field (greatest (λ s. s.number) store.slots + 1)
 
 -- the store of a blank file
 abbrev pub blank_store : Store
@@ -44,40 +36,26 @@ blank_store = record { generation = 0; pages = 0; field = 1; slots = []; spare =
 
 -- There are no units, or unit 0 is all zeros: a unit past the end counts as zeros.
 abbrev pub is_blank : Units → Bool
-is_blank file = not (list_any is_nonzero (unit_at file 0))
-
--- the store of so many pages
-abbrev pub made_store : ℕ → Units → Store
-made_store pages file =
-    record {
-      generation = word 2 (unit_at file 0);
-      pages = pages;
-      field = word 0 (unit_at file 1);
-      slots = slots_in (slot_units pages file);
-      spare =
-          0;
-      is_stopped = false;
-    }
-
--- a value, unless there is a fault
-abbrev pub unless : {X E : Type 0} → Option E → X → Result X E
-unless None x = Ok x
-unless (Some e) x = Err e
+is_blank file = not (list_any (λ b. not (b == 0)) (unit_at file 0))
 
 -- the store of so many pages, or the first damage of its table
 abbrev pub store_of_pages : ℕ → Units → Result Store Damage
-store_of_pages pages file = unless (table_fault pages (length file) (slot_units pages file)) (made_store pages file)
-
--- the store, unless its head has a fault
-abbrev pub made_or_damaged : Option Reason → Units → Result Store Damage
-made_or_damaged (Some reason) file = Err (damage_at 0 reason)
-made_or_damaged None file = store_of_pages (word 3 (unit_at file 0)) file
+store_of_pages pages file = elim (table_fault pages (length file) (slot_units pages file)) [
+  | Some damage ↦ Err damage
+  | None ↦ Ok (record blank_store {
+    generation = word 2 (unit_at file 0);
+    pages = pages;
+    field = word 0 (unit_at file 1);
+    slots = slots_in (slot_units pages file);
+  })
+]
 
 -- the store that Packages.db holds, or its first damage
 unfoldable pub store : Units → Result Store Damage
-store file =
-    if is_blank file then Ok blank_store
-    else made_or_damaged (head_reason (length file) (unit_at file 0)) file
+store file = if is_blank file then Ok blank_store else elim (head_reason (length file) (unit_at file 0)) [
+  | Some reason ↦ Err (damage_at 0 reason)
+  | None ↦ store_of_pages (word 3 (unit_at file 0)) file
+]
 
 -- what a value keeps of a file is what the file says
 abbrev pub KeepsStore : Units → Store → Type 0

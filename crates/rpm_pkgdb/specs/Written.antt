@@ -1,6 +1,6 @@
 -- What writing calls leave of a store.
 use Rattle.std.specs.Prelude.{◌≡◌, ◌⊎◌, ℕ, ◌+◌, ◌<◌, ◌≤◌, List, map, slice_set, if◌then◌else◌, Option, Some, None, Ok}
-use Rattle.std.specs.Prelude.{true, replicate}
+use Rattle.std.specs.Prelude.{true, replicate, unwrap_or}
 use Rattle.std.specs.FinMap as finite
 use Rattle.rpm_outside.specs.Files.{Units, unit_at, blank}
 use Rattle.rpm_pkgdb.specs.declared.slot.Slot.{Slot}
@@ -8,8 +8,7 @@ use Rattle.rpm_pkgdb.specs.declared.plan.Target.{Target}
 use Rattle.rpm_pkgdb.specs.declared.plan.Plan.{Plan}
 use Rattle.rpm_pkgdb.specs.Slots.{end_of, free, has_number}
 use Rattle.rpm_pkgdb.specs.Store.{Store, store, blank_store}
-use Rattle.rpm_pkgdb.specs.Blobs.{blobs}
-use Rattle.rpm_pkgdb.specs.Plans.{slot_for}
+use Rattle.rpm_pkgdb.specs.Blobs.{blobs, blocks_for}
 use Rattle.rpm_pkgdb.specs.Growing.{grown}
 use Rattle.rpm_pkgdb.specs.Planned.{moves_of}
 use Rattle.rpm_pkgdb.specs.Quiet.{Represents}
@@ -18,17 +17,9 @@ use Rattle.rpm_pkgdb.specs.Quiet.{Represents}
 abbrev pub stopped_store : Store → Store
 stopped_store value = record value { is_stopped = true }
 
--- the slots with this one free
-abbrev pub freed_slot : ℕ → Slot → Slot
-freed_slot n s = if has_number n s then free else s
-
--- the slots, with that of a package free
-unfoldable pub freed_slots : ℕ → List Slot → List Slot
-freed_slots n slots = map (freed_slot n) slots
-
--- the value without the slot of a number
+-- the value with the slot of a number free
 abbrev pub without_number : ℕ → Store → Store
-without_number n value = record value { slots = freed_slots n value.slots }
+without_number n value = record value { slots = map (λ s. if has_number n s then free else s) value.slots }
 
 -- the blocks of a slot are zeros
 abbrev pub AreZeros : Option Slot → Units → Type 0
@@ -67,27 +58,21 @@ with_spare spare value = record value { spare = spare }
 abbrev pub next_field : Target → Option ℕ
 next_field target = if target.is_new then Some (target.number + 1) else None
 
--- the number field, where it is written anew
-abbrev pub field_after : Option ℕ → ℕ → ℕ
-field_after None field = field
-field_after (Some next) field = next
-
--- a store with its number field written anew
-abbrev pub with_next : Option ℕ → Store → Store
-with_next next value = record value { field = field_after next value.field }
-
 -- the value once a blob was put
 abbrev pub with_put : Target → Store → Store
-with_put target value =
-    record (with_next (next_field target) value) { slots = slice_set value.slots target.place (slot_for target) }
+with_put target value = record value {
+  field = unwrap_or (next_field target) value.field;
+  slots = slice_set value.slots target.place
+      (record { number = target.number; offset = target.start; count = blocks_for target.length });
+}
 
 -- what a crash leaves while a blob is put: the blobs from before, with the number field from before or after, or those
 -- after, with that after
 abbrev pub PutsTo : Store → Target → List ℕ → Units → Units → Type 0
 PutsTo value target blob file image =
     Represents value.generation value.field (blobs file value) image
-    ⊎ (Represents value.generation (field_after (next_field target) value.field) (blobs file value) image
-    ⊎ Represents value.generation (field_after (next_field target) value.field)
+    ⊎ (Represents value.generation (unwrap_or (next_field target) value.field) (blobs file value) image
+    ⊎ Represents value.generation (unwrap_or (next_field target) value.field)
     (finite.insert (blobs file value) target.number (Some blob)) image)
 
 -- the value once a plan was put

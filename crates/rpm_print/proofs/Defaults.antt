@@ -3,7 +3,7 @@
 use Rattle.std.specs.Prelude.{◌≡◌, [], ◌∷◌, codes, false, Ok, Err, refl}
 use Rattle.rpm_print.proofs.Vocabulary.{after_number, are_ended, bearer, Bracket, bytes, Condition, condition, Element, End, entry_fault, entry_of, fault_at}
 use Rattle.rpm_print.proofs.Vocabulary.{Filenames, first_text, format, Good, Header, header, header_of, label_format, list_format, meaning, move_of, number_at}
-use Rattle.rpm_print.proofs.Vocabulary.{number_of, numbers, numbers_in, Nvra, Plain, printed_step, reading, show_in, sizes, sizes_line, step_of, Stored, stored_value}
+use Rattle.rpm_print.proofs.Vocabulary.{number_of, numbers, numbers_in, Nvra, Plain, printed_step, reading, sizes, sizes_line, step_of, Stored, stored_value}
 use Rattle.rpm_print.proofs.Vocabulary.{formatter_table, Tag, tag_part, Tagged, TagPart, Text, Texts, texts, texts_in, ToErr, ToOut, Tree}
 use Rattle.rpm_header.specs.Header.{entries}
 use Rattle.rpm_header.specs.declared.form.Form.TheVariants as form
@@ -19,14 +19,14 @@ line_of : Tag → Tree
 line_of tag = Tagged (whole tag) (Text (codes "\n") End)
 
 label : format label_format ≡ Ok (line_of Nvra)
-unfolding whole line_of label_format format reading move_of condition tag_part number_of after_number formatter_table show_in name.table name.tag_in
+unfolding whole line_of label_format format reading move_of condition tag_part number_of after_number formatter_table name.table name.tag_in
 label = refl
 
 list_tree : Tree
 list_tree = Condition Filenames (Bracket (line_of Filenames) End) (Text (codes "(contains no files)\n") End) End
 
 list : format list_format ≡ Ok list_tree
-unfolding whole line_of list_tree list_format format reading move_of condition tag_part number_of after_number formatter_table show_in name.table name.tag_in
+unfolding whole line_of list_tree list_format format reading move_of condition tag_part number_of after_number formatter_table name.table name.tag_in
 list = refl
 
 its_line : step_of (line_of Nvra) 1 (2, Good (small 6)) ≡ ToOut (bearer 1 2) (codes "a-1-2.x\n")

@@ -7,8 +7,6 @@ use Rattle.rpm_words.specs.declared.fault.WordsFault.{WordsFault}
 use Rattle.rpm_words.specs.Words.{word_at}
 use Rattle.rpm_qfparse.specs.declared.fault.FormatKind.{FormatKind}
 use Rattle.rpm_qfparse.specs.declared.fault.FormatKind.TheVariants as wrong
-use Rattle.rpm_qfparse.specs.declared.fault.FormatFault.{FormatFault}
-use Rattle.rpm_pkgdb.specs.declared.slot.Damage.{Damage}
 use Rattle.rpm_pkgdb.specs.declared.slot.Reason.{Reason}
 use Rattle.rpm_pkgdb.specs.declared.slot.Reason.TheVariants.{BadMagic, BadVersion, BadPages, BadSlot, BadNumber}
 use Rattle.rpm_pkgdb.specs.declared.slot.Reason.TheVariants.{BadRange, SameNumber, Overlap}
@@ -26,12 +24,6 @@ reason_text BadRange = codes "block range"
 reason_text SameNumber = codes "number used twice"
 reason_text Overlap = codes "blocks overlap"
 
--- the line that reports a damaged Packages.db
-unfoldable pub damage_line : Damage → List ℕ
-damage_line damage =
-    concat (codes "rpm: Packages.db is damaged at byte " ∷ decimal damage.offset ∷ codes ": "
-    ∷ reason_text damage.reason ∷ codes "\n" ∷ [])
-
 -- a text and a number, as a line
 abbrev pub number_line : List ℕ → ℕ → List ℕ
 number_line text n = concat (text ∷ decimal n ∷ codes "\n" ∷ [])
@@ -48,17 +40,11 @@ rule_text kind.BadNumber = codes "rpm: not a number: "
 rule_text kind.BadCapability = codes "rpm: not a capability: "
 rule_text kind.NoMemory = codes "rpm: out of memory"
 
--- the word that is told: the one that breaks the rule, and none where something is missing
-abbrev pub word_told : WordsKind → List ℕ → List ℕ
-word_told kind.NoMode word = []
-word_told kind.MissingArgument word = []
-word_told kind.NoMemory word = []
-word_told others word = word
-
--- the rule, and the word of that place
+-- the rule, and the word of that place, or none where something is missing
 unfoldable pub usage_line : List (List ℕ) → WordsFault → List ℕ
-usage_line words fault =
-    concat (rule_text fault.kind ∷ word_told fault.kind (word_at words fault.word) ∷ codes "\n" ∷ [])
+usage_line words fault = concat (rule_text fault.kind ∷ (elim fault.kind
+    [ kind.NoMode ↦ [] | kind.MissingArgument ↦ [] | kind.NoMemory ↦ [] | _ ↦ word_at words fault.word ])
+    ∷ codes "\n" ∷ [])
 
 -- what is told of a fault of a format
 unfoldable pub fault_text : FormatKind → List ℕ
@@ -79,12 +65,6 @@ fault_text wrong.BarExpected = codes "| expected"
 fault_text wrong.TooDeep = codes "conditions too deep"
 fault_text wrong.NoMemory = codes "out of memory"
 
--- the fault, and the byte of the format that it stands at
-unfoldable pub format_line : FormatFault → List ℕ
-format_line fault =
-    concat (codes "error: incorrect format: " ∷ fault_text fault.kind ∷ codes " at byte " ∷ decimal fault.at
-    ∷ codes "\n" ∷ [])
-
 -- the line of an ending of which there is one text alone; done, failed arguments and a fault of err itself have none
 unfoldable pub fixed_line : Why → List ℕ
 fixed_line why.NumbersSpent = codes "rpm: no package number is left\n"
@@ -98,13 +78,17 @@ fixed_line why.OutFault = codes "rpm: output could not be written\n"
 fixed_line why.NoMemory = codes "rpm: out of memory\n"
 fixed_line others = []
 
--- the line that closes an ending of these words. Of a damaged log or index it names the byte at which the unit of its
--- fault begins
+-- the line that closes an ending of these words. Of a format it names the byte at which its fault stands, and of a
+-- damaged log or index that at which the unit of its fault begins
 unfoldable pub closing : List (List ℕ) → Why → List ℕ
 closing words (why.Usage fault) = usage_line words fault
-closing words (why.BadFormat fault) = format_line fault
+closing words (why.BadFormat fault) =
+    concat (codes "error: incorrect format: " ∷ fault_text fault.kind ∷ codes " at byte " ∷ decimal fault.at
+    ∷ codes "\n" ∷ [])
 closing words (why.BadLog unit) = number_line (codes "rpm: Hlog.db is damaged at byte ") (16 * unit)
-closing words (why.Damaged damage) = damage_line damage
+closing words (why.Damaged damage) =
+    concat (codes "rpm: Packages.db is damaged at byte " ∷ decimal damage.offset ∷ codes ": "
+    ∷ reason_text damage.reason ∷ codes "\n" ∷ [])
 closing words (why.NotEmpty held) = number_line (codes "rpm: the database is not empty: package ") held
 closing words (why.BadIndex unit) = number_line (codes "rpm: Hindex.db is damaged at byte ") (16 * unit)
 closing words others = fixed_line others

@@ -1,9 +1,8 @@
-pub mod Answers
-pub mod Asked
 pub mod Closing
 pub mod Frame
 pub mod Prelude
 pub mod Printed
 pub mod Reads
 pub mod Texts
+pub mod inner
 pub mod laws

@@ -1,6 +1,7 @@
 -- What is read of packages up to a step: the fields `reads` of `plain` and `keyed` on the page (`rpm_tool`,
 -- Theorem.antt), and the bounds within `went`.
-use Rattle.std.specs.Prelude.{◌≡◌, ℕ, zero, suc, ◌+◌, ◌≤◌, List, [], ◌∷◌, slice_get, Option, Some, None}
+use Rattle.std.specs.Prelude.{◌≡◌, ℕ, ◌+◌, ◌≤◌, List, [], ◌∷◌, take, slice_get, Option}
+use Rattle.std.specs.Option.{option_map_or}
 use Rattle.rpm_db.specs.Database.{Database}
 use Rattle.rpm_select.specs.Reach.{Reach, reach_to, reach_all}
 use Rattle.rpm_effects.specs.Steps.{Bearer}
@@ -9,8 +10,7 @@ use Rattle.rpm_effects.specs.Steps.{Bearer}
 
 -- the blocks of the numbers that are gone over: of those up to this one, or of all
 abbrev pub reached_cost : Reach → Database → Option ℕ → ℕ
-reached_cost r db None = reach_all r db
-reached_cost r db (Some n) = reach_to n r db
+reached_cost r db number = option_map_or (λ n. reach_to n r db) number (reach_all r db)
 
 -- read while those above n are gone through: up to the package that a step is for
 abbrev pub ReadsIn : ℕ → ℕ → Reach → Database → ℕ → ℕ → Bearer → Type 0
@@ -27,18 +27,8 @@ abbrev pub reach_sum : List Reach → Database → ℕ
 reach_sum [] db = 0
 reach_sum (r ∷ rs) db = reach_all r db + reach_sum rs db
 
--- a question reads this much for the arguments before the argument j
-abbrev pub reach_before : List Reach → Database → ℕ → ℕ
-reach_before [] db j = 0
-reach_before (r ∷ rs) db zero = 0
-reach_before (r ∷ rs) db (suc j) = reach_all r db + reach_before rs db j
-
--- the bytes that are read up to a package, none where nothing is reached
-abbrev pub reached_in : Option Reach → Database → Option ℕ → ℕ
-reached_in None db number = 0
-reached_in (Some r) db number = reached_cost r db number
-
 -- a question reads this much up to a step: the packages of each argument before, and of its own those up to its
 -- number
 abbrev pub reached_by : List Reach → Database → Bearer → ℕ
-reached_by rs db for = reach_before rs db for.argument + reached_in (slice_get rs for.argument) db for.number
+reached_by rs db for = reach_sum (take for.argument rs) db
+    + option_map_or (λ r. reached_cost r db for.number) (slice_get rs for.argument) 0

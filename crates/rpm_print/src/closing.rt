@@ -1,7 +1,7 @@
 //! The line that closes a command on standard error.
 
-ghost use Rattle.std.specs.Prelude.{◌≡◌};
-ghost use Rattle.rpm_print.specs.Prelude.{closing, damage_line, fault_text, fixed_line, format_line, inner, number_line, reason_text, rule_text, word_at, usage_line, word_told, Writes};
+ghost use Rattle.std.specs.Prelude.{◌≡◌, []};
+ghost use Rattle.rpm_print.specs.Prelude.{closing, fault_text, fixed_line, inner, number_line, reason_text, rule_text, word_at, usage_line, word_told, Writes};
 
 use itoa::Buffer;
 use rpm_db::{Damage, Reason};
@@ -36,7 +36,7 @@ fn put_number<E: Sink>(err: &mut E, text: &[u8], number: u128) -> Result<(), Fai
 
 /// Writes where `Packages.db` is damaged, and how.
 fn put_damage<E: Sink>(err: &mut E, damage: Damage) -> Result<(), Failed>
-    ensures { Writes E.Sink err.old err.new (damage_line damage) result }
+    ensures { Writes E.Sink err.old err.new (closing [] (Why.Damaged damage)) result }
 {
     let mut digits = Buffer::new();
     let offset = digits.format(damage.offset).as_bytes();
@@ -119,7 +119,7 @@ fn fault_text(kind: FormatKind) -> &'static [u8]
 
 /// Writes what is wrong with the format, and at which byte of it.
 fn put_fault<E: Sink>(err: &mut E, fault: FormatFault) -> Result<(), Failed>
-    ensures { Writes E.Sink err.old err.new (format_line fault) result }
+    ensures { Writes E.Sink err.old err.new (closing [] (Why.BadFormat fault)) result }
 {
     let mut digits = Buffer::new();
     let at = digits.format(fault.at).as_bytes();

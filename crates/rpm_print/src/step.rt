@@ -3,8 +3,8 @@
 ghost use Rattle.std.specs.Prelude.{◌≡◌, ◌≢◌, ℕ, ◌++◌, true, Err, IfOk, IfErr};
 ghost use Rattle.rpm_print.specs.Prelude.{bad_line, Bearer, bearer, entry_in, ErrTakes, Good, HaltHands, IsOfPrint, magic, meaning, OutTakes, printed_step, prints_packages, PutsErr, PutsOut, shown_outputs, step_by, StepIs, ToErr, ToOut};
 
-use crate::reading::Request;
 use itoa::Buffer;
+use rpm_command::Request;
 use rpm_effects::Halt;
 use rpm_header::{MAGIC, View};
 use rpm_outside::{Buffered, Failed, Sink, put_and_flush};

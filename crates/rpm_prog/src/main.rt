@@ -1,7 +1,7 @@
 //! The program: its words, the one call of the tool over the real objects, and the status to end with.
 #![tactic(auto)]
 
-use rpm_print::{Kind, kind_of};
+use rpm_command::{Kind, kind_of};
 use rpm_real::{Purpose, RealDisk, RealShelf, RealSink, moment_of};
 use rpm_tool::{Why, run};
 use rpm_words::{Words, place_of, read};
@@ -81,10 +81,10 @@ fn words_of(rt: &(impl Env + AllocGlobal)) -> Result<Words, u8> {
 /// What the command of these words is to do with the database.
 fn purpose_of(alloc: Global, words: &Words) -> Purpose {
     match read(alloc, words) {
-        Ok(ask) => match kind_of(&ask) {
-            Kind::Change => Purpose::Change,
-            Kind::Keyed(_) => Purpose::Keyed,
-            Kind::Files | Kind::Plain(_) | Kind::Text(_) => Purpose::Plain,
+        Ok(ask) => match kind_of(alloc, words, &ask) {
+            Ok(Kind::Change(_)) => Purpose::Change,
+            Ok(Kind::Keyed(_)) => Purpose::Keyed,
+            Ok(Kind::Files | Kind::Plain(_) | Kind::Text(_)) | Err(_) => Purpose::Plain,
         },
         Err(_) => Purpose::Plain,
     }

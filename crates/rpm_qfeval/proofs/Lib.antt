@@ -9,6 +9,7 @@ pub mod Plain
 pub mod Moments
 pub mod Calendar
 pub mod CivilLaw
+pub mod Classes
 pub mod DateLaw
 pub mod Lists
 pub mod Glyphs

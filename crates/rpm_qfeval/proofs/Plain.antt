@@ -3,7 +3,8 @@ use Rattle.std.proofs.Common.{◌≡◌, ℕ, zero, suc, ◌-◌, List, [], ◌�
 use Rattle.std.proofs.Common.{false, Option, Some, None, inl, inr, ◌⊎◌, refl, sym, ap, ◌∙◌, arith}
 use Rattle.std.proofs.lemmas.List.{append-nil, length-map}
 use Rattle.std.specs.Prelude.{slice_get, map, decimal}
-use Rattle.rpm_qfeval.proofs.Vocabulary.{count_of, Elements, Header, if_numbers, if_texts, IsPlain, NumberList, numbers_in, OneBlob, option_and_then}
+use Rattle.rpm_qfeval.proofs.Classes.{if_numbers, if_texts}
+use Rattle.rpm_qfeval.proofs.Vocabulary.{count_of, Elements, Header, IsPlain, NumberList, numbers_in, OneBlob, option_and_then}
 use Rattle.rpm_qfeval.proofs.Vocabulary.{option_map, or_none, padded_text, Stored, stored_value, Tag, TagPart, text_or_none, TextList, texts_in, value}
 use Rattle.rpm_qfparse.specs.declared.tree.Role.TheVariants as role
 use Rattle.rpm_qfparse.specs.declared.tree.Show.TheVariants as show

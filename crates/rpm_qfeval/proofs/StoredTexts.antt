@@ -1,7 +1,8 @@
 -- The texts of a stored tag are its value.
 use Rattle.std.proofs.Common.{◌≡◌, ℕ, List, Option, None, Some, sym, ap, ◌∙◌}
 use Rattle.std.specs.Prelude.{IfSome}
-use Rattle.rpm_qfeval.proofs.Vocabulary.{Elements, Header, if_texts, NumberList, OneBlob, Stored, Tag, TextList, texts_in, value}
+use Rattle.rpm_qfeval.proofs.Classes.{if_texts}
+use Rattle.rpm_qfeval.proofs.Vocabulary.{Elements, Header, NumberList, OneBlob, Stored, Tag, TextList, texts_in, value}
 
 by_texts : (v : Elements) (ts : List (List ℕ)) → Some ts ≡ if_texts (Some v) → v ≡ TextList ts
 by_texts (TextList us) ts e = let same : ts ≡ us = cc in ap TextList (sym same)

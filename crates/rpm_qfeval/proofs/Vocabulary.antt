@@ -34,7 +34,7 @@ pub use Rattle.rpm_qfparse.specs.declared.tree.Role.{Role}
 pub use Rattle.rpm_qfparse.specs.declared.tree.Show.{Show}
 pub use Rattle.rpm_qfparse.specs.declared.tree.TagPart.{TagPart}
 pub use Rattle.rpm_qfparse.specs.laws.Falls.{whole_tree}
-pub use Rattle.rpm_tags.specs.Value.{count_of, Elements, if_numbers, if_texts, NumberList, OneBlob, text_list, TextList, value}
+pub use Rattle.rpm_tags.specs.Value.{count_of, Elements, NumberList, OneBlob, text_list, TextList, value}
 unfoldable pub use Rattle.rpm_tags.specs.Value.{numbers_in, stored_value, texts_in}
 pub use Rattle.rpm_tags.specs.declared.tag.Tag.{Tag}
 pub use Rattle.rpm_tags.specs.declared.tag.Tag.TheVariants.{Dbinstance, Stored}

@@ -1,7 +1,7 @@
 -- The definition of a format, computed on small texts: what it says doesn't come from the code.
 use Rattle.std.specs.Prelude.{◌≡◌, ℕ, [], ◌∷◌, codes, Result, Ok, Err, true, false, refl}
 use Rattle.rpm_qfparse.proofs.Vocabulary.{after_number, BarExpected, BraceExpected, Bracket, Condition, Element, EmptyTag, End, First, format, FormatFault}
-use Rattle.rpm_qfparse.proofs.Vocabulary.{FormatKind, Hex, MissingClose, MissingOpen, move_of, NestedBracket, number_of, Plain, reading, show_in, Stored}
+use Rattle.rpm_qfparse.proofs.Vocabulary.{FormatKind, Hex, MissingClose, MissingOpen, move_of, NestedBracket, number_of, Plain, reading, Stored}
 use Rattle.rpm_qfparse.proofs.Vocabulary.{formatter_table, tag_part, Tagged, TagPart, Text, Tree, UnknownFormatter, UnknownTag, WidthTooLarge}
 use Rattle.rpm_tags.specs.Table as names
 use Rattle.rpm_qfparse.specs.Moves.{condition}
@@ -19,7 +19,7 @@ unfolding format reading move_of
 one_text = refl
 
 all_of_a_tag : format (codes "%-06{=NAME:hex}") ≡ Ok (Tagged (record name { role = First; left = true; width = 6; show = Hex }) End)
-unfolding format reading move_of number_of after_number tag_part formatter_table show_in names.table names.tag_in
+unfolding format reading move_of number_of after_number tag_part formatter_table names.table names.tag_in
 all_of_a_tag = refl
 
 in_a_bracket : format (codes "[%{NAME}]x") ≡ Ok (Bracket (Tagged name End) (Text (codes "x") End))
@@ -53,7 +53,7 @@ unfolding format reading move_of number_of after_number tag_part names.table nam
 no_tag = refl
 
 no_formatter : format (codes "%{NAME:x}") ≡ fault UnknownFormatter 7
-unfolding format reading move_of number_of after_number tag_part formatter_table show_in names.table names.tag_in
+unfolding format reading move_of number_of after_number tag_part formatter_table names.table names.tag_in
 no_formatter = refl
 
 too_wide : format (codes "%5000{NAME}") ≡ fault WidthTooLarge 1

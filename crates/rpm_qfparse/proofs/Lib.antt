@@ -2,6 +2,7 @@ pub mod Drafts
 pub mod Exits
 mod Fixtures
 pub mod Law
+pub mod Pieces
 pub mod Proper
 pub mod ProperTags
 pub mod Rows

@@ -1,7 +1,7 @@
 -- Tags that are read are narrow, and no fault of a tag or a condition is want of memory.
 use Rattle.std.proofs.Common.{◌≡◌, ◌≢◌, ℕ, ◌+◌, ◌≤◌, List, [], length, drop, Bool, true, false, cond, Option, Some, None, Result, Ok, Err, refl, nat_lt, ltb-false, ◌==◌, if◌then◌else◌}
 use Rattle.rpm_qfparse.proofs.Vocabulary.{after_number, asked_tag, BarExpected, begins, BraceExpected, close, Faulty, formatter, MissingClose, MissingOpen}
-use Rattle.rpm_qfparse.proofs.Vocabulary.{name_and_show, named_tag, NoMemory, number_of, or_fault, QuestionExpected, Reading, Role, role, second_follows, show_of}
+use Rattle.rpm_qfparse.proofs.Vocabulary.{name_and_show, named_tag, NoMemory, number_of, ok_or, QuestionExpected, Reading, Role, role, second_follows, show_of}
 use Rattle.rpm_qfparse.proofs.Vocabulary.{side, split_once, tag_inside, tag_of, tag_part, TagPart, UnknownFormatter, UnknownTag, width_in, WidthTooLarge, ◌>>=◌}
 
 abbrev pub IsOwn : Faulty → Type 0
@@ -23,7 +23,7 @@ if_keeps : {X : Type 0} (P : X → Type 0) (v : Bool) (x y : Result X Faulty) �
 if_keeps P true x y h g = h
 if_keeps P false x y h g = g
 
-or_keeps : {X : Type 0} (o : Option X) (e : Faulty) → IsOwn e → Keeps Any (or_fault o e)
+or_keeps : {X : Type 0} (o : Option X) (e : Faulty) → IsOwn e → Keeps Any (ok_or o e)
 or_keeps None e h = h
 or_keeps (Some x) e h = tt
 
@@ -61,14 +61,14 @@ tag_part_keeps s =
     bind_keeps IsNarrow IsNarrowPart (width_in (side s).1) _ (width_by (side s).1 _ refl) (λ size le.
     let x : Reading Role = cond (begins 123 size.1) (Ok (role (drop 1 size.1))) (Err (MissingOpen, size.1)) in
     bind_keeps Any IsNarrowPart x _ (if_keeps Any (begins 123 size.1) (Ok (role (drop 1 size.1))) (Err (MissingOpen, size.1)) tt (λ p. absurd (cc))) (λ inner _.
-    bind_keeps Any IsNarrowPart (or_fault (split_once 125 inner.1) (MissingClose, [])) _ (or_keeps (split_once 125 inner.1) (MissingClose, [])
+    bind_keeps Any IsNarrowPart (ok_or (split_once 125 inner.1) (MissingClose, [])) _ (or_keeps (split_once 125 inner.1) (MissingClose, [])
     (λ p. absurd (cc))) (λ cut _.
     bind_keeps IsNarrowTag IsNarrowPart (tag_inside (side s).0 size.0 inner.0 cut.0 inner.1) _ (inside_keeps (side s).0 size.0 inner.0 cut.0 inner.1
     le) (λ part h. h))))
 
 pub asked_keeps : (s : List ℕ) → Keeps Any (asked_tag s)
 asked_keeps s =
-    bind_keeps Any Any (or_fault (split_once 63 s) (QuestionExpected, [])) _ (or_keeps (split_once 63 s) (QuestionExpected, []) (λ p. absurd (cc))) (λ cut _.
+    bind_keeps Any Any (ok_or (split_once 63 s) (QuestionExpected, [])) _ (or_keeps (split_once 63 s) (QuestionExpected, []) (λ p. absurd (cc))) (λ cut _.
     bind_keeps Any Any (named_tag cut.0 s) _ (named_keeps cut.0 s) (λ t _. if_keeps Any (begins 123 cut.1) (Ok (t, drop 1 cut.1))
     (Err (BraceExpected, cut.1)) tt (λ p. absurd (cc))))
 

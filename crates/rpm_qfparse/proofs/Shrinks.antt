@@ -1,7 +1,7 @@
 -- What is left to read is shorter.
 use Rattle.std.proofs.Common.{ℕ, ◌+◌, ◌≤◌, List, [], length, drop, Bool, true, false, cond, Option, Some, None, Result, Ok, Err, arith, nat_lt, ◌==◌, if◌then◌else◌}
 use Rattle.rpm_qfparse.proofs.Vocabulary.{after_number, asked_tag, BarExpected, begins, BraceExpected, close, Count, digit_count, Element, Faulty, First}
-use Rattle.rpm_qfparse.proofs.Vocabulary.{formatter, MissingClose, MissingOpen, name_and_show, named_tag, number_of, or_fault, QuestionExpected, Reading, Role}
+use Rattle.rpm_qfparse.proofs.Vocabulary.{formatter, MissingClose, MissingOpen, name_and_show, named_tag, number_of, ok_or, QuestionExpected, Reading, Role}
 use Rattle.rpm_qfparse.proofs.Vocabulary.{role, second_follows, show_of, side, split_once, tag_inside, tag_of, tag_part, UnknownFormatter, width_in}
 use Rattle.rpm_qfparse.proofs.Vocabulary.{WidthTooLarge}
 use Rattle.rpm_qfparse.proofs.Within.{FaultWithin, RestWithin, Within, bind_within, drop_within, fault_bind, fault_if, fault_of, fault_or, ok_within, or_ok, split_within, wider, within_if}
@@ -52,7 +52,7 @@ tag_part_within s =
     (λ _. omega (arith, role_within (drop 1 size.1), drop_within 1 size.1)) a in
     bind_within (length s) x _ (fault_of (length s) x y) (λ inner f.
     let b : length inner.1 ≤ length s = ok_within (length s) x inner y f in
-    bind_within (length s) (or_fault (split_once 125 inner.1) (MissingClose, [])) _ (fault_or (length s) (split_once 125 inner.1) (MissingClose, [])
+    bind_within (length s) (ok_or (split_once 125 inner.1) (MissingClose, [])) _ (fault_or (length s) (split_once 125 inner.1) (MissingClose, [])
     (omega arith)) (λ cut g.
     let c : length cut.0 + length cut.1 + 1 ≤ length inner.1 = split_within 125 inner.1 cut (or_ok (split_once 125 inner.1) (MissingClose, []) cut g) in
     bind_within (length s) (tag_inside (side s).0 size.0 inner.0 cut.0 inner.1) _ (inside_within (length s) (side s).0 size.0 inner.0 cut.0 inner.1 b)
@@ -60,7 +60,7 @@ tag_part_within s =
 
 pub asked_within : (s : List ℕ) → Within (length s) (asked_tag s)
 asked_within s =
-    bind_within (length s) (or_fault (split_once 63 s) (QuestionExpected, [])) _ (fault_or (length s) (split_once 63 s) (QuestionExpected, [])
+    bind_within (length s) (ok_or (split_once 63 s) (QuestionExpected, [])) _ (fault_or (length s) (split_once 63 s) (QuestionExpected, [])
     (omega arith)) (λ cut e.
     let a : length cut.0 + length cut.1 + 1 ≤ length s = split_within 63 s cut (or_ok (split_once 63 s) (QuestionExpected, []) cut e) in
     bind_within (length s) (named_tag cut.0 s) _ (named_within cut.0 s) (λ tag f.

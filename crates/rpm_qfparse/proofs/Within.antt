@@ -1,6 +1,6 @@
 -- What is left to read, and where a fault is, within so many bytes of the end.
 use Rattle.std.proofs.Common.{◌≡◌, ℕ, ◌+◌, ◌<◌, ◌≤◌, List, [], ◌∷◌, length, take, drop, Bool, true, false, cond, Option, Some, None, Result, Ok, Err, refl, arith, length-drop, length-take, subst, nat_lt, ◌==◌, ltb-true, ap}
-use Rattle.rpm_qfparse.proofs.Vocabulary.{begins, Faulty, option_map, or_fault, position_or_len, Reading, split_once, ◌>>=◌}
+use Rattle.rpm_qfparse.proofs.Vocabulary.{begins, Faulty, option_map, ok_or, position_or_len, Reading, split_once, ◌>>=◌}
 
 -- a fault lies within so many bytes of the end
 abbrev pub FaultWithin : {X : Type 0} → ℕ → Result X Faulty → Type 0
@@ -59,11 +59,11 @@ pub fault_if : {X : Type 0} (n : ℕ) (v : Bool) (x y : Result X Faulty) → Fau
 fault_if n true x y h g = h
 fault_if n false x y h g = g
 
-pub fault_or : {X : Type 0} (n : ℕ) (o : Option X) (e : Faulty) → length e.1 ≤ n → FaultWithin n (or_fault o e)
+pub fault_or : {X : Type 0} (n : ℕ) (o : Option X) (e : Faulty) → length e.1 ≤ n → FaultWithin n (ok_or o e)
 fault_or n None e h = h
 fault_or n (Some x) e h = tt
 
-pub or_ok : {X : Type 0} (o : Option X) (e : Faulty) (x : X) → or_fault o e ≡ Ok x → o ≡ Some x
+pub or_ok : {X : Type 0} (o : Option X) (e : Faulty) (x : X) → ok_or o e ≡ Ok x → o ≡ Some x
 or_ok None e x h = absurd (cc)
 or_ok (Some y) e x h = cc
 

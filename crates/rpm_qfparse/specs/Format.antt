@@ -106,13 +106,10 @@ unfoldable pub reading : ℕ → Context → Bool → ℕ → List ℕ → Readi
 reading zero c ib d s = Ok (End, s)
 reading (suc n) c ib d s = next_step (reading n) c ib d (move_of c ib d s)
 
--- the tree alone, or the fault with its place in the text
-abbrev pub placed_result : List ℕ → Reading Tree → Result Tree FormatFault
-placed_result text (Ok x) = Ok x.0
-placed_result text (Err e) = Err (record { kind = e.0; at = length text - length e.1 })
-
--- the tree of a text, or its first fault
+-- the tree of a text, or its first fault with the number of bytes in front of it
 unfoldable pub format : List ℕ → Result Tree FormatFault
 format text = if nat_lt 65536 (length text) then Err (record { kind = TooLong; at = 65536 })
-    else placed_result text (reading (suc (length text)) context.Top
-    false 0 text)
+    else (elim (reading (suc (length text)) context.Top false 0 text) [
+      | Ok x ↦ Ok x.0
+      | Err e ↦ Err (record { kind = e.0; at = length text - length e.1 })
+    ])

@@ -3,3 +3,4 @@
 pub mod Bare
 pub mod Coding
 pub mod Draft
+pub mod Steps

@@ -1,12 +1,20 @@
 -- What is said of package files.
 use Rattle.std.proofs.Common.{◌≡◌, ℕ, Bool, true, false, not, ◌||◌, List, [], Option, Some, None, Result, Err, refl, sym, ap, ◌∙◌, subst}
-use Rattle.rpm_query.proofs.Vocabulary.{Anywhere, file_part, FileFault, found_part, HeaderAndRest, is_bad, is_of_words, is_out}
-use Rattle.rpm_query.proofs.Vocabulary.{IsFileFault, bytes_left, Outputs, package_header, PartIs, Paths, PartProgress, read_part, Step, Halt, Through, Tree}
+use Rattle.rpm_query.proofs.Vocabulary.{Anywhere, file_part, FileFault, HeaderAndRest, is_bad, is_of_words, is_out}
+use Rattle.rpm_query.proofs.Vocabulary.{IsFileFault, bytes_left, Outputs, package_header, PartIs, Paths, PartProgress, Portion, read_part, Step, Halt, Through, Tree, whole_step}
 use Rattle.rpm_query.proofs.Vocabulary.{why_of_halt}
 use Rattle.rpm_effects.specs.Endings.{stop_in}
+use Rattle.rpm_effects.specs.Portions.{fails}
+use Rattle.rpm_effects.specs.Steps.{ToErr}
+use Rattle.rpm_effects.specs.Texts.{absent_line}
 use Rattle.rpm_file.specs.declared.fault.FileFault.TheVariants as file
 use Rattle.rpm_effects.specs.declared.tally.Halt.TheVariants as halt
 use Rattle.rpm_effects.specs.laws.Reaching.{not_begun}
+
+-- what is printed of a package file, a line where it isn't there
+abbrev pub found_part : Tree → ℕ → List ℕ → Option (List ℕ) → Portion
+found_part tree j path None = fails (ToErr (whole_step j) (absent_line path))
+found_part tree j path (Some bytes) = read_part tree j path (package_header bytes)
 
 pub found_open : (tree : Tree) (j : ℕ) (path : List ℕ) (found rest : Option (List ℕ)) → rest ≡ found → (found ≡ None → ⊥)
     → found_part tree j path found ≡ read_part tree j path (package_header (bytes_left rest))

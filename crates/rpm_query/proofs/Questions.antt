@@ -1,10 +1,13 @@
 -- A question picks by its text, wherever the text lies.
-use Rattle.std.proofs.Common.{◌≡◌, ℕ, Bool, true, false, List, [], ◌∷◌, map, Bor, Option, Result, Ok, Err, refl, ap, ◌∙◌}
+use Rattle.std.proofs.Common.{◌≡◌, ℕ, Bool, true, false, List, [], ◌∷◌, map, Bor, Option, Result, Ok, Err, ◌&&◌, refl, ap, ◌∙◌}
 use Rattle.rpm_query.proofs.Vocabulary.{argument_reach, Bad, candidates, Chosen, filter, Good, has_header_key, has_key_in, Header, header, HeaderFault, is_candidate}
-use Rattle.rpm_query.proofs.Vocabulary.{is_picked, IsFaultOfChain, IsOfChain, keys_asked, Kind, lent, list_any, nat_cmp, Package, picked_packages, picked_by, picks}
-use Rattle.rpm_query.proofs.Vocabulary.{question_of, reach, reach_of_question, Selection, Halt, takes_bad, takes_header, takes_read, These, unindexed_reach, Units}
+use Rattle.rpm_query.proofs.Vocabulary.{is_picked, IsOfChain, keys_asked, Kind, lent, list_any, nat_cmp, Package, picked_packages, picked_by, picks}
+use Rattle.rpm_query.proofs.Vocabulary.{question_of, reach, Reach, Selection, Halt, takes_bad, takes_header, takes_read, These, unindexed_reach, Units}
 use Rattle.std.specs.Prelude.{IfErr}
+use Rattle.rpm_select.specs.Candidates.{has_keys}
+use Rattle.rpm_select.specs.Reach.{IsFaultOfOne}
 use Rattle.std.specs.FinMap as finite
+use Rattle.std.specs.Option.{MatchOption, option_map_or}
 use Rattle.rpm_words.specs.declared.switch.Chosen.TheVariants as by
 use Rattle.rpm_select.specs.declared.selection.Selection.TheVariants as question
 use Rattle.rpm_effects.specs.declared.tally.Halt.TheVariants as halt
@@ -60,6 +63,10 @@ module _ (s t : Selection) (keys : keys_asked s ≡ keys_asked t) where
   reach_alike same true map = ap (λ (es : List (ℕ × Package)). These (numbers_of es)) (candidates_same map)
   reach_alike same false map = same
 
+-- what a question goes over, with an index or without; an argument that is none goes over nothing
+abbrev reach_of_question : Bool → finite.FinMap nat_cmp Package → Option Selection → Reach
+reach_of_question indexed packages asked = option_map_or (λ sel. reach (has_keys sel && indexed) sel packages) asked (These [])
+
 reach_same : (indexed : Bool) (map : finite.FinMap nat_cmp Package) (chosen : Chosen) (x : Bor (List ℕ))
     → argument_reach indexed map chosen x.now ≡ reach_of_question indexed map (question_of chosen x)
 unfolding argument_reach keys_asked
@@ -69,6 +76,10 @@ reach_same indexed map by.Group x = reach_alike (question.Group (lent x.now)) (q
 reach_same indexed map by.Trigger x = reach_alike (question.Trigger (lent x.now)) (question.Trigger x) refl refl indexed map
 reach_same indexed map by.Directory x = reach_alike (question.Directory (lent x.now)) (question.Directory x) refl refl indexed map
 reach_same indexed map others x = refl
+
+-- a unit has the fault of the chain of a key that a question asks
+abbrev IsFaultOfChain : Option Selection → Units → ℕ → Type 0
+IsFaultOfChain asked idx unit = MatchOption asked ⊥ (λ sel. IsFaultOfOne (keys_asked sel) idx unit)
 
 pub fault_same : (chosen : Chosen) (x : Bor (List ℕ)) (idx : Units) (unit : ℕ) → IsFaultOfChain (question_of chosen x) idx unit
     → IsFaultOfChain (question_of chosen (lent x.now)) idx unit

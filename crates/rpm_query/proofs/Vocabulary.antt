@@ -22,7 +22,7 @@ pub use Rattle.rpm_outside.specs.declared.disk.File.TheVariants.{Idx, Pkg}
 pub use Rattle.rpm_outside.specs.laws.Looking.{looks_at_from, looks_more, looks_then}
 pub use Rattle.rpm_pkgdb.specs.Store.{Store}
 pub use Rattle.rpm_effects.specs.Answers.{PartIs, PartProgress, StepIs, CommandProgress}
-pub use Rattle.rpm_print.specs.Answers.{is_some_of}
+pub use Rattle.rpm_command.specs.Answers.{is_some_of}
 pub use Rattle.rpm_effects.specs.Endings.{why_of_halt}
 pub use Rattle.rpm_effects.specs.Classes.{is_of_words, IsOfRead}
 pub use Rattle.rpm_outside.specs.Frame.{OnlyReads}
@@ -30,23 +30,29 @@ pub use Rattle.rpm_db.specs.Frame.{packages_in}
 pub use Rattle.rpm_print.specs.Frame.{OnlyReadsIndexed, pkg_read}
 pub use Rattle.rpm_effects.specs.Shown.{shown_outputs}
 pub use Rattle.rpm_print.specs.Printed.{packages_part, printed_step, step_by}
-pub use Rattle.rpm_print.specs.Reads.{reach_before, reach_sum, reached_by, ReadsIn, ReadsOf}
-pub use Rattle.rpm_effects.specs.Portions.{before_others, is_bad, Portion}
+pub use Rattle.rpm_print.specs.Reads.{reach_sum, reached_by, ReadsIn, ReadsOf}
+pub use Rattle.rpm_print.specs.laws.Reached.{reach_before}
+pub use Rattle.rpm_effects.specs.Portions.{before_others, Portion}
+pub use Rattle.rpm_effects.specs.laws.Parts.{is_bad}
 pub use Rattle.rpm_effects.specs.declared.answer.Why.{Why}
 pub use Rattle.rpm_qfeval.specs.Meaning.{meaning}
 pub use Rattle.rpm_qfparse.specs.Tree.{Tree}
-pub use Rattle.rpm_query.specs.PackageFiles.{file_part, found_part, read_part}
-pub use Rattle.rpm_query.specs.Queries.{answered_part, argument_part, lent, picked_by, question_of}
+pub use Rattle.rpm_query.specs.PackageFiles.{file_part}
+pub use Rattle.rpm_query.specs.inner.PackageFiles.{read_part}
+pub use Rattle.rpm_query.specs.Queries.{answered_part, argument_part, lent, question_of}
+pub use Rattle.rpm_query.specs.laws.Answering.{picked_by}
 unfoldable pub use Rattle.rpm_query.specs.Queries.{missing_part, picked_packages}
-pub use Rattle.rpm_query.specs.Reach.{IsFaultOfChain, IsOfChain, reach_of_question}
+pub use Rattle.rpm_query.specs.Reach.{IsOfChain}
 unfoldable pub use Rattle.rpm_query.specs.Reach.{argument_reach}
 pub use Rattle.rpm_query.specs.declared.printing.PrintedPackages.{PrintedPackages}
-pub use Rattle.rpm_select.specs.Candidates.{has_header_key, has_key_in, is_candidate}
+pub use Rattle.rpm_select.specs.laws.Parts.{has_header_key, has_key_in, is_candidate}
 unfoldable pub use Rattle.rpm_select.specs.Candidates.{candidates, keys_asked}
 pub use Rattle.rpm_select.specs.Picks.{entry_in, NextIs, NextNumberIs, number_in}
-pub use Rattle.rpm_select.specs.Reach.{Everything, HasIndexRows, reach, Reach, reach_all, reach_to, Serves, These, unindexed_reach}
+pub use Rattle.rpm_select.specs.Reach.{Everything, HasIndexRows, reach, Reach, reach_all, reach_to, Serves, These}
+pub use Rattle.rpm_select.specs.laws.Unindexed.{unindexed_reach}
 pub use Rattle.rpm_select.specs.Recents.{Recalls}
-pub use Rattle.rpm_select.specs.Selections.{is_picked, takes_bad, takes_read}
+pub use Rattle.rpm_select.specs.Selections.{is_picked, takes_bad}
+pub use Rattle.rpm_select.specs.laws.Parts.{takes_read}
 unfoldable pub use Rattle.rpm_select.specs.Selections.{picks, takes_header}
 pub use Rattle.rpm_select.specs.declared.picked.PickFault.{PickFault}
 pub use Rattle.rpm_select.specs.declared.picked.Picked.{Picked}

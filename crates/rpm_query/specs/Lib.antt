@@ -2,4 +2,5 @@ pub mod PackageFiles
 pub mod Prelude
 pub mod Queries
 pub mod Reach
+pub mod inner
 pub mod laws

@@ -3,12 +3,12 @@
 use Rattle.std.specs.Prelude.{◌≡◌, ℕ, List, [], ◌∷◌, map, codes, Bool, true, Option, Some, None, is_some, Result, Ok}
 use Rattle.std.specs.Prelude.{Err}
 use Rattle.std.specs.Borrow.{Bor}
-use Rattle.std.specs.Option.{option_map}
+use Rattle.std.specs.Option.{option_map, option_map_or}
+use Rattle.std.specs.Result.{result_ok}
 use Rattle.std.specs.List.{concat, AllByRecursion}
 use Rattle.std.specs.Ordering.{nat_cmp}
 use Rattle.std.specs.FinMap.{FinMap}
-use Rattle.rpm_version.specs.declared.capability.BadCapability.{BadCapability}
-use Rattle.rpm_version.specs.Capability.{CapabilityParts, capability}
+use Rattle.rpm_version.specs.Capability.{capability}
 use Rattle.rpm_words.specs.declared.switch.Chosen.{Chosen}
 use Rattle.rpm_words.specs.declared.switch.Chosen.TheVariants as by
 use Rattle.rpm_words.specs.Number.{number}
@@ -35,11 +35,6 @@ use Rattle.rpm_query.specs.declared.printing.PrintedPackages.{PrintedPackages}
 abbrev pub lent : List ℕ → Bor (List ℕ)
 lent text = record { ref_ptr = (0, 0); now = text }
 
--- the selection by a capability, where the argument is one
-abbrev pub capability_in : (CapabilityParts → Selection) → Result CapabilityParts BadCapability → Option Selection
-capability_in of (Ok c) = Some (of c)
-capability_in of (Err bad) = None
-
 -- the question that an argument is. Of words that break no rule each number and each capability is one.
 abbrev pub question_of : Chosen → Bor (List ℕ) → Option Selection
 question_of by.Label x = Some (question.Label x)
@@ -47,60 +42,47 @@ question_of by.All x = Some (question.Pattern x)
 question_of by.Path x = Some (question.Path x)
 question_of by.Group x = Some (question.Group x)
 question_of by.Package x = None
-question_of by.Provides x = capability_in question.Provides (capability x.now)
-question_of by.Requires x = capability_in question.Requires (capability x.now)
-question_of by.Conflicts x = capability_in question.Conflicts (capability x.now)
-question_of by.Obsoletes x = capability_in question.Obsoletes (capability x.now)
+question_of by.Provides x = option_map question.Provides (result_ok (capability x.now))
+question_of by.Requires x = option_map question.Requires (result_ok (capability x.now))
+question_of by.Conflicts x = option_map question.Conflicts (result_ok (capability x.now))
+question_of by.Obsoletes x = option_map question.Obsoletes (result_ok (capability x.now))
 question_of by.Trigger x = Some (question.Trigger x)
 question_of by.Number x = option_map question.Number (number x.now)
 question_of by.Directory x = Some (question.Directory x)
 question_of by.Tid x = option_map question.Tid (number x.now)
-question_of by.Recommends x = capability_in question.Recommends (capability x.now)
+question_of by.Recommends x = option_map question.Recommends (result_ok (capability x.now))
 
--- an argument is a question
-abbrev pub is_question : Chosen → List ℕ → Bool
-is_question chosen text = is_some (question_of chosen (lent text))
-
--- each argument is one
+-- each argument is a question
 abbrev pub AreQuestions : List (List ℕ) → AskParts → Type 0
-AreQuestions words a = AllByRecursion (λ w. is_question a.chosen (word_at words w) ≡ true) a.arguments
+AreQuestions words a = AllByRecursion (λ w. is_some (question_of a.chosen (lent (word_at words w))) ≡ true) a.arguments
 
--- the packages that a selection picks, none where there is no selection
-abbrev pub picked_by : FinMap nat_cmp Package → Option Selection → List (ℕ × Package)
-picked_by packages None = []
-picked_by packages (Some sel) = picks packages sel
-
--- the packages that an argument picks, by rising number
+-- the packages that an argument picks, by rising number, and none where it is no question
 unfoldable pub picked_packages : FinMap nat_cmp Package → Chosen → List ℕ → List (ℕ × Package)
-picked_packages packages chosen text = picked_by packages (question_of chosen (lent text))
+picked_packages packages chosen text = option_map_or (picks packages) (question_of chosen (lent text)) []
 
 -- an argument that picks nothing, as a line on standard output
 abbrev pub missing_line_part : ℕ → List ℕ → List ℕ → List ℕ → Portion
 missing_line_part j front text back = fails (ToOut (whole_step j) (concat (front ∷ text ∷ back ∷ [])))
 
--- a record that isn't there, as a line on standard error
-abbrev pub missing_record : ℕ → List ℕ → Portion
-missing_record j text =
-    fails (ToErr (whole_step j) (concat (codes "error: record " ∷ text ∷ codes " could not be read\n" ∷ [])))
-
--- the line of an argument that picks nothing, whatever was passed over; all packages and patterns have none
+-- the line of an argument that picks nothing, whatever was passed over: that of a record that isn't there on standard
+-- error; all packages, patterns and package files have none
 unfoldable pub missing_part : Chosen → ℕ → List ℕ → Portion
 missing_part by.Label j x = missing_line_part j (codes "package ") x (codes " is not installed\n")
-missing_part by.All j x = nothing
 missing_part by.Path j x = missing_line_part j (codes "file ") x (codes " is not owned by any package\n")
 missing_part by.Group j x = missing_line_part j (codes "group ") x (codes " does not contain any packages\n")
-missing_part by.Package j x = nothing
 missing_part by.Provides j x = missing_line_part j (codes "no package provides ") x (codes "\n")
 missing_part by.Requires j x = missing_line_part j (codes "no package requires ") x (codes "\n")
 missing_part by.Conflicts j x = missing_line_part j (codes "no package conflicts ") x (codes "\n")
 missing_part by.Obsoletes j x = missing_line_part j (codes "no package obsoletes ") x (codes "\n")
 missing_part by.Trigger j x = missing_line_part j (codes "no package triggers ") x (codes "\n")
-missing_part by.Number j x = missing_record j x
+missing_part by.Number j x =
+    fails (ToErr (whole_step j) (concat (codes "error: record " ∷ x ∷ codes " could not be read\n" ∷ [])))
 missing_part by.Directory j x = missing_line_part j (codes "no package has files in ") x (codes "\n")
 missing_part by.Tid j x = missing_line_part j (codes "no package has transaction ") x (codes "\n")
 missing_part by.Recommends j x = missing_line_part j (codes "no package recommends ") x (codes "\n")
+missing_part others j x = nothing
 
--- given what it picks
+-- what is printed for an argument, given what it picks
 abbrev pub answered_part : Tree → Chosen → ℕ → ℕ → List ℕ → List (ℕ × Package) → Portion
 answered_part tree chosen after j text [] = missing_part chosen j text
 answered_part tree chosen after j text (e ∷ es) = packages_part (step_of tree j) after (e ∷ es)

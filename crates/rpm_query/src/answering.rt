@@ -5,10 +5,10 @@ ghost use Rattle.rpm_query.specs.Prelude.{above, argument_part, argument_reach, 
 
 use crate::missing::put_missing_part;
 use crate::printing::{halt_of_pick, print_above};
+use rpm_command::Request;
 use rpm_db::Db;
 use rpm_effects::Halt;
 use rpm_outside::{Buffered, Disk, File, Sink};
-use rpm_print::Request;
 use rpm_qfparse::Format;
 use rpm_select::{Capability, Picker, Recent, Selection};
 use rpm_words::{Chosen, number_of};

@@ -1,7 +1,7 @@
 //! The line of an argument that picks nothing: on out, or on err where a number has no record.
 
 ghost use Rattle.std.specs.Prelude.{◌≡◌, ◌≢◌, ℕ, List, Err, IfErr, IfNone, IfSome};
-ghost use Rattle.rpm_query.specs.Prelude.{ErrTakes, HaltHands, IsOfPrint, missing_line_part, missing_part, missing_record, nothing, OutTakes, PartIs, PutsErr, PutsOut, shown_outputs, whole_step};
+ghost use Rattle.rpm_query.specs.Prelude.{ErrTakes, HaltHands, IsOfPrint, missing_line_part, missing_part, nothing, OutTakes, PartIs, PutsErr, PutsOut, shown_outputs, whole_step};
 
 use rpm_effects::{Halt, put_line, put_out};
 use rpm_outside::{Buffered, Sink};
@@ -22,8 +22,10 @@ fn put_missing<O: Sink + Drop>(
 }
 
 /// Writes to err that a number has no record.
+#[tactic(auto, unfolding(crate::specs::Queries::missing_part))]
 fn put_no_record<E: Sink + Drop>(err: &mut Buffered<E>, text: &[u8]) -> Result<bool, Halt>
-    ensures part { (j : ℕ) → ErrTakes E.Sink (λ old new. PartIs (missing_record j text.now) result old new (λ for. for ≡ whole_step j)) err.old err.new }
+    ensures part { (j : ℕ) → ErrTakes E.Sink (λ old new. PartIs (missing_part Chosen.Number j text.now) result old new
+        (λ for. for ≡ whole_step j)) err.old err.new }
     ensures puts { PutsErr E.Sink result err.old err.new }
 {
     match put_line(err, &[b"error: record ", text, b" could not be read\n"]) {

@@ -4,10 +4,11 @@ ghost use Rattle.std.specs.Prelude.{◌≡◌, ◌≢◌, ℕ, ◌+◌, ◌-◌,
 ghost use Rattle.rpm_query.specs.Prelude.{above, packages_cost, packages_cost_to, DiskFault, fails_in, HaltHands, HasKeptRows, is_some_of, IsAskable, IsOfPrint, OnlyReads, packages_in, packages_part, PartIs, picks, Pkg, pkg_read, prints_packages, reach_all, reach_to, ReadsIn, Recalls, Serves, shown_outputs, step_by, halt_of_pick, unindexed_reach};
 ghost use Rattle.rpm_select.specs.Reach.{asks_index};
 
+use rpm_command::Request;
 use rpm_db::Db;
 use rpm_effects::Halt;
 use rpm_outside::{Buffered, Disk, File, Sink};
-use rpm_print::{Request, print_picked};
+use rpm_print::print_picked;
 use rpm_qfparse::Format;
 use rpm_select::{PickFault, Picker, Recent, Selection};
 use std::alloc::Global;

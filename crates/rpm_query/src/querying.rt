@@ -6,10 +6,10 @@ ghost use Rattle.rpm_select.specs.declared.selection.Selection.TheVariants as qu
 
 use crate::answering::answer;
 use crate::printing::{begin_unasked, print_above};
+use rpm_command::Request;
 use rpm_db::Db;
 use rpm_effects::Why;
 use rpm_outside::{Buffered, Disk, File, Sink};
-use rpm_print::Request;
 use rpm_qfparse::Format;
 use rpm_select::{Recent, Selection};
 use rpm_words::{Ask, Words};

@@ -2,9 +2,9 @@
 use Rattle.std.proofs.Common.{◌≡◌, ℕ, ◌-◌, ◌++◌, List, [], Option, Some, None, Result, Ok, Err, length, replicate, refl, sym, ap, ◌∙◌, arith}
 use Rattle.std.specs.Prelude.{false, unwrap_or}
 use Rattle.rpm_report.proofs.Vocabulary.{after_number, ARCH, as_text, Bad, bearer, bytes, condition, Conflict, Element, End, FinMap, first_text, format, get}
-use Rattle.rpm_report.proofs.Vocabulary.{Good, Header, header, header_label, header_step, HeaderFault, IsReport, label, label_in, label_told, label_tree}
-use Rattle.rpm_report.proofs.Vocabulary.{meaning, move_of, NAME, nat_cmp, number_of, Nvra, option_and_then, out_bytes, Package, padded_text, Plain, printed_step, reading}
-use Rattle.rpm_report.proofs.Vocabulary.{RELEASE, Report, report_steps, show_in, sizes, formatter_table, tag_part, Tagged, TagPart, text_or_none, told_steps, Tree, value}
+use Rattle.rpm_report.proofs.Vocabulary.{Good, Header, header, header_label, header_or, HeaderFault, IsReport, label, label_told, label_tree}
+use Rattle.rpm_report.proofs.Vocabulary.{meaning, move_of, NAME, nat_cmp, number_of, Nvra, option_and_then, out_bytes, Package, package_text, padded_text, Plain, printed_step, reading}
+use Rattle.rpm_report.proofs.Vocabulary.{RELEASE, Report, report_steps, sizes, formatter_table, tag_part, Tagged, TagPart, text_or_none, told_steps, Tree, value}
 use Rattle.rpm_report.proofs.Vocabulary.{VERSION}
 use Rattle.std.proofs.lemmas.List.{append-nil}
 use Rattle.rpm_tags.specs.Table as name
@@ -17,7 +17,7 @@ label_part : TagPart
 label_part = record { tag = Nvra; role = Element; left = false; width = 0; show = Plain }
 
 tree_is : label_tree ≡ Tagged label_part End
-unfolding label_tree label_part format reading move_of condition tag_part number_of after_number formatter_table show_in name.table name.tag_in
+unfolding label_tree label_part format reading move_of condition tag_part number_of after_number formatter_table name.table name.tag_in
 tree_is = refl
 
 meant : (h : Header) (n : ℕ) → meaning h n (Tagged label_part End) ≡ Ok (padded_text false 0 (text_or_none Element Plain 0 (value h n Nvra)) ++ [])
@@ -41,11 +41,11 @@ header_label_is h n =
     ∙ ap (λ (r : Result (List ℕ) (ℕ × ℕ)). out_bytes (printed_step (bearer 0 n) r)) (meant h n) in
     shown_as (label (first_text h NAME) None (first_text h VERSION) (first_text h RELEASE) (first_text h ARCH)) ∙ sym (unpadded text) ∙ sym same
 
-label_read_is : (n : ℕ) (r : Result Header HeaderFault) → unwrap_or (check.label_read r) [] ≡ out_bytes (header_step label_tree 0 n r)
+label_read_is : (n : ℕ) (r : Result Header HeaderFault) → unwrap_or (check.label_read r) [] ≡ header_or (header_label n) r []
 label_read_is n (Ok h) = header_label_is h n
 label_read_is n (Err fault) = refl
 
-label_in_is : (n : ℕ) (p : Option Package) → unwrap_or (option_and_then check.label_of p) [] ≡ label_in n p
+label_in_is : (n : ℕ) (p : Option Package) → unwrap_or (option_and_then check.label_of p) [] ≡ package_text (header_label n) p
 label_in_is n None = refl
 label_in_is n (Some (Good bytes)) = label_read_is n (header bytes)
 label_in_is n (Some Bad) = refl

@@ -6,5 +6,6 @@ mod Lines
 mod Passing
 mod Rowed
 mod SoFar
+mod Steps
 mod Telling
 pub mod Vocabulary

@@ -13,7 +13,8 @@ pub use Rattle.rpm_db.specs.Database.{packages_cost_to, Database}
 pub use Rattle.rpm_db.specs.Database.{store_of}
 pub use Rattle.rpm_db.specs.laws.Own.{header-own}
 pub use Rattle.rpm_db.specs.laws.PackageLaws.{cost_more, cost_some}
-pub use Rattle.rpm_db.specs.State.{Bad, Good, Package, package_of, read_as}
+pub use Rattle.rpm_db.specs.State.{Bad, Good, header_or, Package, package_of}
+pub use Rattle.rpm_db.specs.laws.Parts.{read_as}
 unfoldable pub use Rattle.rpm_db.specs.State.{packages}
 pub use Rattle.rpm_filecheck.specs.Conflicts.{bad, conflicts, IsReport, Report}
 pub use Rattle.rpm_filecheck.specs.Owners.{Conflict}
@@ -30,12 +31,12 @@ pub use Rattle.rpm_outside.specs.declared.buffered.Buffered.{Buffered}
 pub use Rattle.rpm_outside.specs.declared.disk.File.TheVariants.{Pkg}
 pub use Rattle.rpm_outside.specs.laws.Looking.{looks_more, looks_none, looks_then}
 pub use Rattle.rpm_effects.specs.Answers.{PartIs, PartProgress, StepIs, CommandProgress}
-pub use Rattle.rpm_print.specs.Answers.{is_some_of}
+pub use Rattle.rpm_command.specs.Answers.{is_some_of}
 pub use Rattle.rpm_outside.specs.Frame.{DiskFault, OnlyReads}
 pub use Rattle.rpm_db.specs.Frame.{packages_in}
 pub use Rattle.rpm_print.specs.Frame.{OnlyReadsIndexed, pkg_read, TellsOut}
 pub use Rattle.rpm_effects.specs.Shown.{OutTakes, shown_outputs}
-pub use Rattle.rpm_print.specs.Printed.{bad_step, header_step, printed_step}
+pub use Rattle.rpm_print.specs.Printed.{bad_step, printed_step}
 pub use Rattle.rpm_print.specs.Reads.{reached_by}
 pub use Rattle.rpm_effects.specs.Portions.{fails, Portion, together}
 pub use Rattle.rpm_qfeval.specs.Meaning.{meaning, text_or_none}
@@ -44,22 +45,21 @@ pub use Rattle.rpm_qfeval.specs.Numbers.{depflags, has, bit_letters}
 pub use Rattle.rpm_qfeval.specs.Padded.{padded_text}
 unfoldable pub use Rattle.rpm_qfparse.specs.Format.{format, reading}
 unfoldable pub use Rattle.rpm_qfparse.specs.Moves.{condition, move_of}
-unfoldable pub use Rattle.rpm_qfparse.specs.Tag.{after_number, number_of, show_in, formatter_table, tag_part}
+unfoldable pub use Rattle.rpm_qfparse.specs.Tag.{after_number, number_of, formatter_table, tag_part}
 pub use Rattle.rpm_qfparse.specs.Tree.{End, Tagged, Tree}
 pub use Rattle.rpm_qfparse.specs.declared.tree.Role.TheVariants.{Element}
 pub use Rattle.rpm_qfparse.specs.declared.tree.Show.TheVariants.{Plain}
 pub use Rattle.rpm_qfparse.specs.declared.tree.TagPart.{TagPart}
-pub use Rattle.rpm_report.specs.FileReport.{check_files, conflict_step, label_told, report_steps, told_steps, unread_step}
-unfoldable pub use Rattle.rpm_report.specs.FileReport.{conflict_line}
-pub use Rattle.rpm_report.specs.Labels.{header_label, label_in}
+pub use Rattle.rpm_report.specs.FileReport.{check_files, conflict_step, label_told, report_steps, told_steps}
+pub use Rattle.rpm_report.specs.Labels.{header_label, package_text}
 unfoldable pub use Rattle.rpm_report.specs.Labels.{label_tree}
-pub use Rattle.rpm_report.specs.Reports.{entry_verdict}
-unfoldable pub use Rattle.rpm_report.specs.Reports.{verdict_line}
-pub use Rattle.rpm_report.specs.Requirements.{bad_part, portion_behind, class_steps, classes_part, halt_of_check, HaltsOfSome, label_step, label_text}
-pub use Rattle.rpm_report.specs.Requirements.{line_of, package_text, read_text, unmet_lines, unmet_part, unmet_step, unmet_text, why_of_report}
-unfoldable pub use Rattle.rpm_report.specs.Requirements.{cycle_line, unmet_line}
+pub use Rattle.rpm_report.specs.Requirements.{portion_behind, class_steps, halt_of_check, HaltsOfSome, label_step}
+pub use Rattle.rpm_report.specs.Requirements.{unmet_lines, unmet_step, unmet_text, why_of_report}
+pub use Rattle.rpm_report.specs.inner.Lines.{bad_part, line_of}
+pub use Rattle.rpm_report.proofs.Steps.{classes_part, conflict_line, cycle_line, entry_verdict, label_text, read_text, unmet_part, unread_step}
+unfoldable pub use Rattle.rpm_report.specs.Requirements.{unmet_line}
 pub use Rattle.rpm_select.specs.Reach.{Everything}
-pub use Rattle.rpm_tags.specs.Numbers.{ARCH, NAME, RELEASE, VERSION}
+pub use Rattle.rpm_tags.specs.declared.numbers.TheConstants.{ARCH, NAME, RELEASE, VERSION}
 pub use Rattle.rpm_tags.specs.Value.{as_text, label, value}
 pub use Rattle.rpm_tags.specs.Wanted.{Need}
 unfoldable pub use Rattle.rpm_tags.specs.Value.{first_text}

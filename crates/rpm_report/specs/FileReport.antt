@@ -1,6 +1,6 @@
 -- What is told of the paths that several packages own and that differ: for `--checkfiles` the course of `plain` on the
 -- page (`rpm_tool`, Theorem.antt).
-use Rattle.std.specs.Prelude.{ℕ, List, [], ◌∷◌, ◌++◌, map, codes, Bool, true, false, unwrap_or}
+use Rattle.std.specs.Prelude.{ℕ, List, [], ◌∷◌, ◌++◌, map, codes, if◌then◌else◌, unwrap_or}
 use Rattle.std.specs.List.{concat}
 use Rattle.std.specs.Ordering.{nat_cmp}
 use Rattle.std.specs.FinMap.{FinMap}
@@ -14,28 +14,18 @@ use Rattle.rpm_report.specs.Labels.{label_of_number}
 
 -- ---- its lines
 
--- a word where two files differ, else nothing
-abbrev pub if_differs : Bool → List ℕ → List ℕ
-if_differs true word = word
-if_differs false word = []
-
--- the path, the labels of its two packages, and the parts that differ
-unfoldable pub conflict_line : List ℕ → List ℕ → Conflict → List ℕ
-conflict_line first second c =
-    concat (c.path ∷ codes ": " ∷ first ∷ codes " " ∷ second ∷ codes ":" ∷ if_differs c.digest (codes " digest")
-    ∷ if_differs c.mode (codes " mode") ∷ if_differs c.link (codes " link") ∷ codes "\n" ∷ [])
-
--- a line comes once all packages were read, and so it is the whole argument's
-abbrev pub unread_step : ℕ → Step
-unread_step n = ToErr (whole_step 0) (bad_line n)
-
--- a conflict of two files, as a line with the labels of both packages
+-- a conflict of two files, as a line: the path, the labels of its two packages, and the parts that differ
 abbrev pub conflict_step : (ℕ → List ℕ) → Conflict → Step
-conflict_step labels c = ToOut (whole_step 0) (conflict_line (labels c.first) (labels c.second) c)
+conflict_step labels c = ToOut (whole_step 0)
+    (concat (c.path ∷ codes ": " ∷ labels c.first ∷ codes " " ∷ labels c.second ∷ codes ":"
+    ∷ (if c.digest then codes " digest" else []) ∷ (if c.mode then codes " mode" else [])
+    ∷ (if c.link then codes " link" else []) ∷ codes "\n" ∷ []))
 
--- first the packages that can't be read, by rising number, and then the conflicts
+-- first the packages that can't be read, by rising number, and then the conflicts: each line comes once all packages
+-- were read, and so it is the whole argument's
 abbrev pub report_steps : (ℕ → List ℕ) → List ℕ → List Conflict → List Step
-report_steps labels numbers found = map unread_step numbers ++ map (conflict_step labels) found
+report_steps labels numbers found =
+    map (λ n. ToErr (whole_step 0) (bad_line n)) numbers ++ map (conflict_step labels) found
 
 -- a report on files has a line for each conflict and each Bad package, for which its one argument fails
 abbrev pub check_files : FinMap nat_cmp Package → Course

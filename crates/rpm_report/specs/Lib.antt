@@ -3,4 +3,5 @@ pub mod Labels
 pub mod Prelude
 pub mod Reports
 pub mod Requirements
+pub mod inner
 pub mod laws

@@ -25,8 +25,10 @@ pub use Rattle.rpm_print.specs.Frame.{ReadsBy, TellsErr, TellsOut, pkg_read}
 pub use Rattle.rpm_db.specs.Frame.{packages_in}
 pub use Rattle.rpm_print.specs.Reads.{reached_by}
 pub use Rattle.rpm_effects.specs.Portions.{fails, together}
-pub use Rattle.rpm_report.specs.FileReport.{check_files, conflict_step, if_differs, label_told, told_steps}
+pub use Rattle.rpm_report.specs.FileReport.{check_files, conflict_step, label_told, told_steps}
 pub use Rattle.rpm_report.specs.Reports.{unsound, verdict_part, verify}
-pub use Rattle.rpm_report.specs.Requirements.{HaltsOfSome, IsPackageRead, OrderPartIs, bad_at, bad_parts, class_steps}
+pub use Rattle.rpm_report.specs.Requirements.{HaltsOfSome, IsPackageRead, OrderPartIs, bad_parts, class_steps}
+pub use Rattle.rpm_report.specs.inner.Lines.{bad_at, line_of}
 pub use Rattle.rpm_report.specs.Requirements.{halt_of_check, label_step}
-pub use Rattle.rpm_report.specs.Requirements.{line_of, range_text, read_text, unmet_lines, unmet_step, unsatisfied_part}
+pub use Rattle.rpm_report.specs.Requirements.{range_text, unmet_lines, unmet_step, unsatisfied_part}
+pub use Rattle.rpm_db.specs.State.{header_or}

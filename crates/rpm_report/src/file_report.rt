@@ -1,7 +1,7 @@
 //! `AnswersPlain` of the theorem: what is told of the paths that several packages own and that differ.
 
-ghost use Rattle.std.specs.Prelude.{◌≡◌, ◌≢◌, ◌+◌, ◌≤◌, [], ◌∷◌, map, false, IsTrue, Err, IfErr};
-ghost use Rattle.rpm_report.specs.Prelude.{check_files, conflict_step, packages_cost, DiskFault, EndHands, Everything, fails, HaltHands, if_differs, is_foreign, is_of_opening, IsAskable, IsOfPrint, label_told, OnlyReads, OutTakes, packages_in, PartIs, Pkg, pkg_read, PutsOut, reached_by, shown_outputs, together, told_steps, CommandProgress, whole_step};
+ghost use Rattle.std.specs.Prelude.{◌≡◌, ◌≢◌, ◌+◌, ◌≤◌, [], ◌∷◌, map, if◌then◌else◌, false, IsTrue, Err, IfErr};
+ghost use Rattle.rpm_report.specs.Prelude.{check_files, conflict_step, packages_cost, DiskFault, EndHands, Everything, fails, HaltHands, is_foreign, is_of_opening, IsAskable, IsOfPrint, label_told, OnlyReads, OutTakes, packages_in, PartIs, Pkg, pkg_read, PutsOut, reached_by, shown_outputs, together, told_steps, CommandProgress, whole_step};
 
 use rpm_db::Db;
 use rpm_effects::{Halt, Why, put_out};
@@ -12,13 +12,12 @@ use std::alloc::Global;
 
 /// A word, where what it names differs.
 fn if_differs<'a>(differs: bool, word: &'a [u8]) -> &'a [u8]
-    ensures { result.now ≡ if_differs differs word.now }
+    ensures { result.now ≡ if differs then word.now else [] }
 {
     if differs { word } else { b"" }
 }
 
 /// Writes to out the line of a conflict.
-#[tactic(auto, unfolding(crate::specs::FileReport::conflict_line))]
 fn put_conflict<'a, O: Sink + Drop>(
     out: &mut Buffered<O>,
     report: &'a ConflictList,

@@ -63,7 +63,6 @@ fn put_labels<D: Disk, O: Sink + Drop>(
 }
 
 /// Writes the packages of a class; before several how many there are, which all lead to each other.
-#[tactic(auto, unfolding(crate::specs::Requirements::cycle_line))]
 fn put_class<D: Disk, O: Sink + Drop>(
     alloc: Global,
     db: &Db,

@@ -2,7 +2,7 @@
 
 ghost use Rattle.std.specs.Prelude.{◌≡◌, ◌==◌, ◌<◌, ◌≤◌, [], ◌++◌, drop, length, map, if◌then◌else◌, true, IsTrue, Err, IfOk, IfErr, OnOk, slice_get};
 ghost use Rattle.std.specs.List.{All, prefix_len};
-ghost use Rattle.rpm_report.specs.Prelude.{Anywhere, DiskFault, HaltHands, has, HasKeptRows, header, is_open, IsAskable, IsOfPrint, line_of, needed_in, option_map, OutTakes, packages_in, PartIs, OnlyReadsIndexed, range_text, PartProgress, read_text, requirements, shown_outputs, HaltsOfSome, TellsOut, unmet_lines, unmet_step, unsatisfied_part};
+ghost use Rattle.rpm_report.specs.Prelude.{Anywhere, DiskFault, HaltHands, has, HasKeptRows, header, header_or, is_open, IsAskable, IsOfPrint, line_of, needed_in, option_map, OutTakes, packages_in, PartIs, OnlyReadsIndexed, range_text, PartProgress, requirements, shown_outputs, HaltsOfSome, TellsOut, unmet_lines, unmet_step, unsatisfied_part};
 
 use crate::unreadable::{halt_of_check, read_into, tell_each_bad};
 use rpm_check::{Unmet, unmet};
@@ -136,7 +136,7 @@ fn unmet_lines(
     number: u32,
     row: &[Unmet],
 ) -> Result<Vec<u8>, AllocError>
-    ensures { IfOk result (λ lines. lines.items ≡ read_text (unmet_lines row.now number) (header blob.now)) }
+    ensures { IfOk result (λ lines. lines.items ≡ header_or (unmet_lines row.now number) (header blob.now) []) }
 {
     let mut lines = Vec::new(alloc);
     match View::parse(blob) {

@@ -11,7 +11,6 @@ use rpm_outside::{Buffered, Disk, File, Sink};
 use std::alloc::Global;
 
 /// Writes the line of a package that isn't sound, for which the argument fails.
-#[tactic(auto, unfolding(crate::specs::Reports::verdict_line))]
 fn put_unsound<O: Sink + Drop>(
     out: &mut Buffered<O>,
     number: u32,

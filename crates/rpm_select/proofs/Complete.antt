@@ -10,10 +10,10 @@ use Rattle.rpm_header.specs.Header.{Header, header}
 use Rattle.rpm_tags.specs.declared.kind.Kind.TheVariants as kind
 use Rattle.rpm_tags.specs.declared.needed.Tags.{Tags}
 use Rattle.rpm_tags.specs.Keys.{number_key}
-use Rattle.rpm_tags.specs.Numbers.{NAME, GROUP, DIRINDEXES, BASENAMES, DIRNAMES, INSTALLTID, PROVIDENAME, PROVIDEFLAGS}
-use Rattle.rpm_tags.specs.Numbers.{PROVIDEVERSION, REQUIRENAME, REQUIREFLAGS, REQUIREVERSION, CONFLICTNAME}
-use Rattle.rpm_tags.specs.Numbers.{CONFLICTFLAGS, CONFLICTVERSION, OBSOLETENAME, OBSOLETEFLAGS, OBSOLETEVERSION}
-use Rattle.rpm_tags.specs.Numbers.{RECOMMENDNAME, RECOMMENDFLAGS, RECOMMENDVERSION, TRIGGERNAME}
+use Rattle.rpm_tags.specs.declared.numbers.TheConstants.{NAME, GROUP, DIRINDEXES, BASENAMES, DIRNAMES, INSTALLTID, PROVIDENAME, PROVIDEFLAGS}
+use Rattle.rpm_tags.specs.declared.numbers.TheConstants.{PROVIDEVERSION, REQUIRENAME, REQUIREFLAGS, REQUIREVERSION, CONFLICTNAME}
+use Rattle.rpm_tags.specs.declared.numbers.TheConstants.{CONFLICTFLAGS, CONFLICTVERSION, OBSOLETENAME, OBSOLETEFLAGS, OBSOLETEVERSION}
+use Rattle.rpm_tags.specs.declared.numbers.TheConstants.{RECOMMENDNAME, RECOMMENDFLAGS, RECOMMENDVERSION, TRIGGERNAME}
 use Rattle.rpm_tags.specs.Value.{first_text, texts_in, numbers_in, filenames}
 use Rattle.rpm_tags.specs.Wanted.{list_or_empty, has_file, dependencies, base_name}
 use Rattle.rpm_version.specs.Capability.{CapabilityParts}
@@ -22,15 +22,17 @@ use Rattle.rpm_select.specs.declared.selection.Selection.{Selection}
 use Rattle.rpm_select.specs.declared.selection.Selection.TheVariants.{All, Pattern, Label, Path, Group, Provides}
 use Rattle.rpm_select.specs.declared.selection.Selection.TheVariants.{Requires, Conflicts, Obsoletes, Trigger, Number}
 use Rattle.rpm_select.specs.declared.selection.Selection.TheVariants.{Directory, Tid, Recommends}
-use Rattle.rpm_select.specs.Candidates.{has_keys, keys_asked, has_header_key, has_key_in, is_candidate, names_in}
-use Rattle.rpm_select.specs.Candidates.{path_keys}
+use Rattle.rpm_select.specs.Candidates.{has_keys, keys_asked, names_in}
+use Rattle.rpm_select.specs.laws.Parts.{has_header_key, has_key_in, is_candidate}
+use Rattle.rpm_select.specs.laws.Parts.{path_keys}
 use Rattle.rpm_select.specs.Labels.{labels}
 use Rattle.rpm_version.specs.Range.{is_open}
-use Rattle.rpm_select.specs.Providing.{is_file_of}
-use Rattle.rpm_select.specs.Selections.{tags, has_any, needed_by, is_text_among, is_text, takes_header, takes_read}
+use Rattle.rpm_select.specs.laws.Parts.{is_file_of}
+use Rattle.rpm_select.specs.Selections.{needed_by, is_text_among, takes_header}
+use Rattle.rpm_select.specs.laws.Parts.{tags, has_any, is_text, takes_read}
 use Rattle.rpm_select.specs.Selections.{is_picked}
 use Rattle.rpm_select.proofs.Cuts.{label_begins}
-use Rattle.rpm_select.specs.laws.Keyed.{or_left, or_right, or_cases, same_bytes, are_same, first_among, named, based}
+use Rattle.rpm_select.specs.laws.Keyed.{or_left, or_right, or_cases, same_bytes, are_same, first_among, named, zipped}
 use Rattle.rpm_select.specs.laws.Keyed.{numbered}
 
 -- one key among others
@@ -84,8 +86,8 @@ need_key ts c h is = named c (list_or_empty (texts_in h ts.names)) (list_or_empt
 path_key : (path : List ℕ) (h : Header) → has_file h path ≡ true
     → is_text_among (base_name path) (list_or_empty (texts_in h BASENAMES)) ≡ true
 unfolding has_file
-path_key path h is = based path (filenames (texts_in h DIRNAMES) (numbers_in h DIRINDEXES) (texts_in h BASENAMES))
-    (texts_in h BASENAMES) is
+path_key path h is = zipped path (list_or_empty (filenames (texts_in h DIRNAMES) (numbers_in h DIRINDEXES) (texts_in h BASENAMES)))
+    (list_or_empty (texts_in h BASENAMES)) is
 
 file_key : (c : CapabilityParts) (h : Header) → is_file_of (needed_by c) h ≡ true
     → list_any (has_header_key h) (path_keys c.name) ≡ true

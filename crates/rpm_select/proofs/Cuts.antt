@@ -11,12 +11,18 @@ use Rattle.std.proofs.lemmas.List.{get_or-append_right}
 use Rattle.std.proofs.Math.Seq.{get_or-append_seam, take-append_seam}
 use Rattle.std.proofs.lemmas.List.Folds.{list_any-append}
 use Rattle.std.proofs.lemmas.List.Sums.{suffix_len_is}
-use Rattle.rpm_select.specs.Candidates.{cut_text, one_candidate, names_in, is_dot}
+use Rattle.rpm_select.specs.Candidates.{cut_text, names_in}
+use Rattle.std.specs.Option.{option_to_list}
 use Rattle.rpm_version.specs.Evr.{is_dash}
-use Rattle.rpm_select.specs.Labels.{is_dash_or_dot, without_bytes, with_arch, with_release, with_version}
-use Rattle.rpm_select.specs.Labels.{with_name}
+use Rattle.rpm_select.specs.Labels.{without_bytes, with_arch, with_version}
+use Rattle.rpm_select.specs.inner.Labelled.{is_dash_or_dot, with_release}
+use Rattle.rpm_select.specs.inner.Labelled.{with_name}
 use Rattle.rpm_select.specs.Selections.{is_text_among}
 use Rattle.rpm_select.specs.laws.Keyed.{or_left, or_right, or_cases, same_bytes, are_same}
+
+-- The byte of a dot.
+abbrev is_dot : ℕ → Bool
+is_dot b = b == 46
 
 or_none : (a b : Bool) → (a || b) ≡ false → (a ≡ false) × (b ≡ false)
 or_none true b is = absurd cc
@@ -111,22 +117,22 @@ arch_behind v a no_dash_v no_dash_a =
 abbrev IsCandidateName : List ℕ → List ℕ → Type 0
 IsCandidateName name x = is_text_among name (names_in x) ≡ true
 
-one_has : (name : List ℕ) (o : Option (List ℕ)) → o ≡ Some name → is_text_among name (one_candidate o) ≡ true
+one_has : (name : List ℕ) (o : Option (List ℕ)) → o ≡ Some name → is_text_among name (option_to_list o) ≡ true
 one_has name o is =
-    subst (λ (cutted : Option (List ℕ)). is_text_among name (one_candidate cutted) ≡ true) (sym is)
+    subst (λ (cutted : Option (List ℕ)). is_text_among name (option_to_list cutted) ≡ true) (sym is)
     (or_left (bytes_eq name name) false (are_same name name refl))
 
 -- the text itself; cut before its last dot; before its last dash; before its last dash but one
 abbrev dot_of : List ℕ → List (List ℕ)
-dot_of x = one_candidate (cut_text is_dot x)
+dot_of x = option_to_list (cut_text is_dot x)
 
 -- a text cut before its last dash, or nothing
 abbrev dash_of : List ℕ → List (List ℕ)
-dash_of x = one_candidate (cut_text is_dash x)
+dash_of x = option_to_list (cut_text is_dash x)
 
 -- a text cut before its last dash but one, or nothing
 abbrev twice_of : List ℕ → List (List ℕ)
-twice_of x = one_candidate (option_and_then (cut_text is_dash) (cut_text is_dash x))
+twice_of x = option_to_list (option_and_then (cut_text is_dash) (cut_text is_dash x))
 
 whole : (x : List ℕ) → IsCandidateName x x
 whole x = or_left (bytes_eq x x) (is_text_among x (dot_of x ++ dash_of x ++ twice_of x)) (are_same x x refl)

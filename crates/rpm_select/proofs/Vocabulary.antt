@@ -7,9 +7,11 @@ pub use Rattle.rpm_db.specs.Database.{store_of}
 pub use Rattle.rpm_db.specs.Lawful.{HasRows}
 pub use Rattle.rpm_db.specs.laws.PackageLaws.{cost_more, cost_some, cost_up, is_there}
 pub use Rattle.rpm_db.specs.laws.RowLaws.{times-rows}
-pub use Rattle.rpm_db.specs.Rows.{key_row, kind_rows, kinds, rows, rows_at, rows_read}
+pub use Rattle.rpm_db.specs.Rows.{kinds, rows, rows_at}
+pub use Rattle.rpm_db.specs.laws.Parts.{key_row, kind_rows, rows_read}
 unfoldable pub use Rattle.rpm_db.specs.Rows.{header_rows}
-pub use Rattle.rpm_db.specs.State.{above, Bad, Good, Package, packages, read_as}
+pub use Rattle.rpm_db.specs.State.{above, Bad, Good, Package, packages}
+pub use Rattle.rpm_db.specs.laws.Parts.{read_as}
 pub use Rattle.rpm_header.specs.Header.{Header, header}
 pub use Rattle.rpm_header.specs.declared.form.HeaderFault.{HeaderFault}
 pub use Rattle.rpm_hindex.specs.Answers.{AreHits, hit_at, row_of_hit, same_hit}
@@ -21,18 +23,23 @@ pub use Rattle.rpm_outside.specs.Files.{Files, Units}
 pub use Rattle.rpm_outside.specs.Looks.{OnlyReads, OnlyReadsFile}
 pub use Rattle.rpm_outside.specs.declared.disk.File.TheVariants.{Idx, Pkg}
 pub use Rattle.rpm_outside.specs.laws.Looking.{looks_more, looks_none, looks_then}
-pub use Rattle.rpm_select.specs.Candidates.{cut_text, has_header_key, has_key_in, has_keys, is_candidate, keys_asked, names_in}
+pub use Rattle.rpm_select.specs.Candidates.{cut_text, has_keys, keys_asked, names_in}
+pub use Rattle.rpm_select.specs.laws.Parts.{has_header_key, has_key_in, is_candidate}
 unfoldable pub use Rattle.rpm_select.specs.Candidates.{candidates}
 pub use Rattle.rpm_select.specs.Frame.{AsksPackages}
-pub use Rattle.rpm_select.specs.Glob.{Byte, is_close, is_member, Piece, pieces, Question, Set, stands_for, Star, takes_byte, Written}
+pub use Rattle.rpm_select.specs.Glob.{Byte, is_member, Piece, Question, Set, stands_for, Star, takes_byte}
 unfoldable pub use Rattle.rpm_select.specs.Glob.{glob, piece_at, pieces_behind}
 pub use Rattle.rpm_version.specs.Evr.{is_dash}
-pub use Rattle.rpm_select.specs.Labels.{is_dash_or_dot, with_name, without_bytes}
+pub use Rattle.rpm_select.specs.Labels.{without_bytes}
+pub use Rattle.rpm_select.specs.inner.Labelled.{is_dash_or_dot, with_name}
 pub use Rattle.rpm_select.specs.Picks.{cost_after, entry_in, NextIs, NextNumberIs, number_in, package_in, ReadsOwn}
-pub use Rattle.rpm_select.specs.Reach.{asks_index, Everything, HasChain, is_in, IsFaultOfOne, keys_cost, Reach, reach, reach_after, reach_all, reach_to, reaches}
-pub use Rattle.rpm_select.specs.Reach.{Serves, These, unindexed_reach}
+pub use Rattle.rpm_select.specs.Reach.{asks_index, Everything, HasChain, is_in, IsFaultOfOne, keys_cost}
+pub use Rattle.rpm_select.specs.Reach.{Reach, reach, reach_after, reach_all, reach_to, reaches}
+pub use Rattle.rpm_select.specs.Reach.{Serves, These}
+pub use Rattle.rpm_select.specs.laws.Unindexed.{unindexed_reach}
 pub use Rattle.rpm_select.specs.Recents.{IsHeld, IsOf, picks_at, Recalls}
-pub use Rattle.rpm_select.specs.Selections.{has_any, is_text_among, is_elsewhere, is_picked, meets_capability, takes_read}
+pub use Rattle.rpm_select.specs.Selections.{is_text_among, is_elsewhere, is_picked}
+pub use Rattle.rpm_select.specs.laws.Parts.{has_any, meets_capability, takes_read}
 unfoldable pub use Rattle.rpm_select.specs.Selections.{picks, takes_header}
 pub use Rattle.rpm_select.specs.declared.picked.PickFault.{PickFault}
 pub use Rattle.rpm_select.specs.declared.picked.PickFault.TheVariants.{DiskFault}
@@ -47,7 +54,7 @@ pub use Rattle.rpm_select.proofs.Complete.{complete}
 pub use Rattle.rpm_select.specs.laws.Costing.{reach_more, reach_some, reach_up}
 pub use Rattle.rpm_select.specs.laws.Keyed.{or_cases, or_left, or_right}
 pub use Rattle.rpm_select.specs.inner.Members.{first_has, first_len}
-pub use Rattle.rpm_select.specs.inner.Pieces.{written_in}
+pub use Rattle.rpm_select.specs.inner.Pieces.{is_close, pieces, written_in}
 pub use Rattle.rpm_select.specs.inner.Reaching.{reach_of}
 pub use Rattle.rpm_select.specs.laws.Rising.{AreAbove, commute, Rises, rises, same_members}
 pub use Rattle.rpm_select.specs.inner.Single.{OneIs, OneOf}

@@ -8,8 +8,7 @@ use Rattle.std.specs.Option.{option_map}
 
 -- any bytes, one byte of any kind, one byte, or one byte of a set, or else of all others
 pub data Piece : Type 0 where
-  Star : Piece
-  Question : Piece
+  Star Question : Piece
   Byte : ℕ → Piece
   Set : Bool → List ℕ → Piece
 
@@ -40,66 +39,41 @@ stands_for (piece ∷ pieces) (b ∷ text) = takes_byte piece b && stands_for pi
 
 -- ---- how a glob is written
 
--- the byte of ]
-abbrev pub is_close : ℕ → Bool
-is_close b = b == 93
-
--- after a [: a ! or a ^ that turns the set round
+-- After a [ stands a ! (33) or a ^ (94), which turns the set round.
 abbrev pub is_turned : List ℕ → Bool
 is_turned [] = false
 is_turned (b ∷ rest) = b == 33 || b == 94
 
--- what stands after a ! or ^ at the front, if one is there
-abbrev pub behind_turn : List ℕ → List ℕ
-behind_turn rest = if is_turned rest then drop 1 rest else rest
-
--- how many members a set has: it ends at the first ] that isn't its first member
+-- How many members a set has: it ends at the first ] (93) that isn't its first member.
 abbrev pub member_count : List ℕ → Option ℕ
 member_count [] = None
-member_count (first ∷ rest) = option_map (λ n. n + 1) (position is_close rest)
+member_count (first ∷ rest) = option_map (λ n. n + 1) (position (λ b. b == 93) rest)
 
--- a piece, and how many bytes it is written in
-pub record Written : Type 0 where
-  pub piece : Piece
-  pub size : ℕ
+-- The set that a [ (91) begins, and how many bytes write it with the [; without an end the [ is itself.
+abbrev pub bracketed_set : List ℕ → Piece × ℕ
+bracketed_set rest =
+    let members = if is_turned rest then drop 1 rest else rest in
+    elim (member_count members) [
+      | Some n ↦ (Set (is_turned rest) (take n members), n + (if is_turned rest then 3 else 2))
+      | None ↦ (Byte 91, 1)
+    ]
 
--- a piece and how many bytes write it
-abbrev pub written_piece : Piece → ℕ → Written
-written_piece piece size = record { piece = piece; size = size }
-
--- after a \ stands a byte for itself; at the end it is itself
-abbrev pub escaped_piece : List ℕ → Written
-escaped_piece [] = written_piece (Byte 92) 1
-escaped_piece (b ∷ rest) = written_piece (Byte b) 2
-
--- after a [; without an end it is itself
-abbrev pub set_of : Bool → List ℕ → Option ℕ → Written
-set_of turned members None = written_piece (Byte 91) 1
-set_of turned members (Some n) = written_piece (Set turned (take n members)) (n + (if turned then 3 else 2))
-
--- the set that begins after a [
-abbrev pub bracketed_set : List ℕ → Written
-bracketed_set rest = set_of (is_turned rest) (behind_turn rest) (member_count (behind_turn rest))
-
--- the piece that a byte begins, given what follows it
-unfoldable pub piece_at : ℕ → List ℕ → Written
+-- The piece that a byte begins, given what follows it, and how many bytes write it: * (42) and ? (63) stand for others,
+-- a byte after a \ (92) for itself, and so does a \ at the end.
+unfoldable pub piece_at : ℕ → List ℕ → Piece × ℕ
 piece_at b rest =
-    if b == 42 then written_piece Star 1
-    else if b == 63 then written_piece Question 1
-    else if b == 92 then escaped_piece rest
+    if b == 42 then (Star, 1)
+    else if b == 63 then (Question, 1)
+    else if b == 92 then elim rest [ [] ↦ (Byte 92, 1) | next ∷ others ↦ (Byte next, 2) ]
     else if b == 91 then bracketed_set rest
-    else written_piece (Byte b) 1
+    else (Byte b, 1)
 
--- the pieces of a glob, after so many bytes
+-- The pieces of a glob, after so many bytes.
 unfoldable pub pieces_behind : ℕ → List ℕ → List Piece
 pieces_behind n [] = []
 pieces_behind (suc n) (b ∷ glob) = pieces_behind n glob
-pieces_behind zero (b ∷ glob) = (piece_at b glob).piece ∷ pieces_behind ((piece_at b glob).size - 1) glob
+pieces_behind zero (b ∷ glob) = (piece_at b glob).0 ∷ pieces_behind ((piece_at b glob).1 - 1) glob
 
--- the pieces of a whole glob
-abbrev pub pieces : List ℕ → List Piece
-pieces glob = pieces_behind 0 glob
-
--- the whole text
+-- A glob matches a text when its pieces stand for the whole of it.
 unfoldable pub glob : List ℕ → List ℕ → Bool
-glob pattern text = stands_for (pieces pattern) text
+glob pattern text = stands_for (pieces_behind 0 pattern) text

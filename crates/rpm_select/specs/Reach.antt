@@ -31,14 +31,10 @@ pub data Reach : Type 0 where
 abbrev pub asks_index : Database → Selection → Bool
 asks_index db sel = has_keys sel && is_indexed db
 
--- where no index is asked
-abbrev pub unindexed_reach : Selection → Reach
-unindexed_reach (Number m) = These (m ∷ [])
-unindexed_reach others = Everything
-
--- where an index is asked, the candidates alone
+-- Where an index is asked, a question goes over the candidates alone; else over its number, or all.
 abbrev pub reach : Bool → Selection → finite.FinMap nat_cmp Package → Reach
-reach asked sel packages = if asked then These (map (λ e. e.0) (candidates packages sel)) else unindexed_reach sel
+reach asked sel packages = if asked then These (map (λ e. e.0) (candidates packages sel))
+    else elim sel [ Number m ↦ These (m ∷ []) | others ↦ Everything ]
 
 -- a number is one of these
 abbrev pub is_in : ℕ → List ℕ → Bool
@@ -61,14 +57,10 @@ HasIndexRows db pkg idx = is_indexed db ≡ true → HasRows (packages pkg (stor
 
 -- ---- what is read
 
--- the blocks of these numbers, up to this one
-abbrev pub costs_to : ℕ → List ℕ → Database → ℕ
-costs_to m ns db = sum_by (λ n. package_cost n db) (filter (λ n. nat_le n m) ns)
-
--- the blocks of the numbers that are gone over, up to this one
+-- The blocks of the numbers that are gone over, up to this one.
 abbrev pub reach_to : ℕ → Reach → Database → ℕ
 reach_to m Everything db = packages_cost_to m db
-reach_to m (These ns) db = costs_to m ns db
+reach_to m (These ns) db = sum_by (λ n. package_cost n db) (filter (λ n. nat_le n m) ns)
 
 -- a question reads the blocks of all numbers that it goes over
 abbrev pub reach_all : Reach → Database → ℕ

@@ -2,5 +2,6 @@
 pub mod Among
 pub mod Costing
 pub mod Keyed
+pub mod Parts
 pub mod Rising
 pub mod Unindexed

@@ -1,7 +1,7 @@
 //! The keys that a selection asks an index for.
 
 ghost use Rattle.std.specs.Prelude.{◌≡◌, ◌≤◌, ◌++◌, ◌∷◌, [], not, length, IfOk, OnOk};
-ghost use Rattle.rpm_select.specs.Prelude.{base_name, cut_text, Installtid, is_byte, is_dash, keys_asked, name_keys, names_in, number_key, one_candidate, option_and_then, option_copied, path_keys, Providename, suffix_len};
+ghost use Rattle.rpm_select.specs.Prelude.{base_name, cut_text, Installtid, is_byte, is_dash, keys_asked, name_keys, names_in, number_key, option_and_then, option_copied, path_keys, Providename, suffix_len, option_to_list};
 
 use crate::rows::is_slash_first;
 use crate::selection::Selection;
@@ -96,7 +96,7 @@ fn base_name(path: &[u8]) -> &[u8]
 
 /// Adds a name, where there is one.
 fn push_name<'a>(keys: &mut Vec<Asked<'a>>, name: Option<&'a [u8]>) -> Result<(), AllocError>
-    ensures { OnOk result (keys.new.items ≡ keys.old.items ++ name_keys (one_candidate (option_copied name.entry))) }
+    ensures { OnOk result (keys.new.items ≡ keys.old.items ++ name_keys (option_to_list (option_copied name.entry))) }
 {
     match name {
         None => Ok(()),

@@ -10,17 +10,19 @@ use Rattle.std.proofs.lemmas.Option.{slice_get-get_or}
 pub length_parts : (count : ℕ) (parts : List TextPart) → length parts ≡ 9 → count ≤ 9 → length (parts_of count parts) ≡ count
 length_parts count parts nine room = length-take-le count (map bytes_of_parts parts) (omega (arith, length-map parts bytes_of_parts))
 
-pub part_here : (count k : ℕ) (parts : List TextPart) (p d : TextPart) (v : List (List ℕ)) → parts_of count parts ≡ v → length parts ≡ 9 → count ≤ 9 → k < count
-    → get_or parts k d ≡ p → Some (bytes_of_parts p) ≡ slice_get v k
+pub part_here : (count k : ℕ) (parts : List TextPart) (p d : TextPart) (v : List (List ℕ)) → parts_of count parts ≡ v → length parts ≡ 9
+    → count ≤ 9 → k < count → get_or parts k d ≡ p → Some (bytes_of_parts p) ≡ slice_get v k
 part_here count k parts p d v view nine room within is =
     let below : k < length (parts_of count parts) = omega (arith, length_parts count parts nine room) in
     rw (← view, ← is) (sym (slice_get-get_or (parts_of count parts) k (bytes_of_parts d) below
-    ∙ ap Some (get_or-take count (map bytes_of_parts parts) k (bytes_of_parts d) within ∙ get_or-map bytes_of_parts parts k d (bytes_of_parts d) (omega arith))))
+    ∙ ap Some (get_or-take count (map bytes_of_parts parts) k (bytes_of_parts d) within
+    ∙ get_or-map bytes_of_parts parts k d (bytes_of_parts d) (omega arith))))
 
 pub pushed : (count : ℕ) (parts : List TextPart) (p : TextPart) (text : List ℕ) → length parts ≡ 9 → count < 9 → bytes_of_parts p ≡ text
     → parts_of (count + 1) (set parts count p) ≡ parts_of count parts ++ text ∷ []
 pushed count parts p text nine room is =
-    rw (map-set bytes_of_parts parts count p, ← is) (take_more_set (map bytes_of_parts parts) count (bytes_of_parts p) (omega (arith, length-map parts bytes_of_parts)))
+    rw (map-set bytes_of_parts parts count p, ← is)
+    (take_more_set (map bytes_of_parts parts) count (bytes_of_parts p) (omega (arith, length-map parts bytes_of_parts)))
 
 concat_one : (text : List ℕ) → concat (text ∷ []) ≡ text
 concat_one text = append-nil text

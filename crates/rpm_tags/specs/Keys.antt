@@ -5,24 +5,10 @@ use Rattle.std.specs.Int.{w64, to_be_bytes}
 use Rattle.rpm_header.specs.Header.{Header}
 use Rattle.rpm_tags.specs.declared.kind.Kind.{Kind}
 use Rattle.rpm_tags.specs.declared.kind.Kind.TheVariants as kind
-use Rattle.rpm_tags.specs.Numbers.{NAME, GROUP, PROVIDENAME, REQUIRENAME, CONFLICTNAME, TRIGGERNAME, OBSOLETENAME}
-use Rattle.rpm_tags.specs.Numbers.{BASENAMES, DIRNAMES, INSTALLTID, RECOMMENDNAME}
+use Rattle.rpm_tags.specs.Kinds.{code_and_tag}
+use Rattle.rpm_tags.specs.Numbers.{INSTALLTID}
 use Rattle.rpm_tags.specs.Value.{texts_in, numbers_in}
 use Rattle.rpm_tags.specs.Wanted.{list_or_empty}
-
--- the tag of each kind
-abbrev pub tag_of_kind : Kind → ℕ
-tag_of_kind kind.Name = NAME
-tag_of_kind kind.Basenames = BASENAMES
-tag_of_kind kind.Group = GROUP
-tag_of_kind kind.Providename = PROVIDENAME
-tag_of_kind kind.Requirename = REQUIRENAME
-tag_of_kind kind.Conflictname = CONFLICTNAME
-tag_of_kind kind.Obsoletename = OBSOLETENAME
-tag_of_kind kind.Triggername = TRIGGERNAME
-tag_of_kind kind.Dirnames = DIRNAMES
-tag_of_kind kind.Installtid = INSTALLTID
-tag_of_kind kind.Recommendname = RECOMMENDNAME
 
 -- a number as a key
 abbrev pub number_key : ℕ → List ℕ
@@ -32,12 +18,8 @@ number_key n = to_be_bytes w64 n
 -- is missing or of another class
 abbrev pub key_list : Kind → Header → List (List ℕ)
 key_list kind.Installtid h = map number_key (list_or_empty (numbers_in h INSTALLTID))
-key_list k h = list_or_empty (texts_in h (tag_of_kind k))
-
--- each with its place, from this one on
-abbrev pub placed_keys : List (List ℕ) → ℕ → List (List ℕ × ℕ)
-placed_keys keys n = zip keys (range_with_len n (length keys))
+key_list k h = list_or_empty (texts_in h (code_and_tag k).1)
 
 -- the keys of a kind in a header, each with its place
 abbrev pub keys : Kind → Header → List (List ℕ × ℕ)
-keys k h = placed_keys (key_list k h) 0
+keys k h = zip (key_list k h) (range_with_len 0 (length (key_list k h)))

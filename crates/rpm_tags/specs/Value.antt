@@ -1,7 +1,7 @@
 -- What a tag's value is in a header.
 use Rattle.std.specs.Prelude.{ℕ, Bool, List, [], ◌∷◌, ◌++◌, codes, decimal, Option, Some, None, length, take, slice_get}
 use Rattle.std.specs.Prelude.{map, ◌==◌, ◌&&◌, nat_lt, if◌then◌else◌, unwrap_or}
-use Rattle.std.specs.Option.{option_and_then}
+use Rattle.std.specs.Option.{option_and_then, option_map, option_map_or}
 use Rattle.std.specs.List.{concat, list_all, zip}
 use Rattle.rpm_header.specs.declared.form.Form.{Form}
 use Rattle.rpm_header.specs.declared.form.Form.TheVariants as form
@@ -16,9 +16,8 @@ use Rattle.rpm_tags.specs.declared.values.Class.TheVariants as class
 
 -- the elements of a value, by its class
 pub data Elements : Type 0 where
-  NumberList : List ℕ → Elements
+  NumberList OneBlob : List ℕ → Elements
   TextList : List (List ℕ) → Elements
-  OneBlob : List ℕ → Elements
 
 -- what the elements are: numbers, texts or a blob
 abbrev pub class_of : Elements → Class
@@ -49,7 +48,7 @@ blob_elements _ = []
 
 -- ---- stored tags
 
--- an entry's values have these elements by its form; an I18n has its first text alone
+-- an entry's values have these elements by its form: a Null has none, and an I18n its first text alone
 abbrev pub elements_by : Form → Values → Option Elements
 elements_by form.Null v = None
 elements_by form.Bin v = Some (OneBlob (bin_bytes v))
@@ -58,33 +57,19 @@ elements_by form.Texts v = Some (TextList (texts_of v))
 elements_by form.I18n v = Some (TextList (take 1 (texts_of v)))
 elements_by _ v = Some (NumberList (numbers_of v))
 
--- the elements of an entry, and none of a Null
-abbrev pub elements : Item → Option Elements
-elements e = elements_by e.form e.values
-
 -- a header has this under a tag: what the last of several entries of the tag has
 unfoldable pub stored_value : Header → ℕ → Option Elements
-stored_value h tag = option_and_then elements (last_of tag h.entries)
+stored_value h tag = option_and_then (λ e. elements_by e.form e.values) (last_of tag h.entries)
 
 -- ---- the elements of a tag, where it is of that class
 
--- the texts, where the elements are texts
-abbrev pub if_texts : Option Elements → Option (List (List ℕ))
-if_texts (Some (TextList ts)) = Some ts
-if_texts _ = None
-
--- the numbers, where the elements are numbers
-abbrev pub if_numbers : Option Elements → Option (List ℕ)
-if_numbers (Some (NumberList ns)) = Some ns
-if_numbers _ = None
-
 -- the texts of a tag in a header
 unfoldable pub texts_in : Header → ℕ → Option (List (List ℕ))
-texts_in h tag = if_texts (stored_value h tag)
+texts_in h tag = elim (stored_value h tag) [ Some (TextList ts) ↦ Some ts | _ ↦ None ]
 
 -- the numbers of a tag in a header
 unfoldable pub numbers_in : Header → ℕ → Option (List ℕ)
-numbers_in h tag = if_numbers (stored_value h tag)
+numbers_in h tag = elim (stored_value h tag) [ Some (NumberList ns) ↦ Some ns | _ ↦ None ]
 
 -- the first text of a tag in a header
 unfoldable pub first_text : Header → ℕ → Option (List ℕ)
@@ -98,67 +83,41 @@ first_number h tag = option_and_then (λ ns. slice_get ns 0) (numbers_in h tag)
 
 -- the epoch and a colon, where there is one
 abbrev pub epoch_parts : Option ℕ → List (List ℕ)
-epoch_parts None = []
-epoch_parts (Some epoch) = decimal epoch ∷ codes ":" ∷ []
+epoch_parts e = option_map_or (λ epoch. decimal epoch ∷ codes ":" ∷ []) e []
 
 -- a dot and the architecture, where there is one
 abbrev pub arch_parts : Option (List ℕ) → List (List ℕ)
-arch_parts None = []
-arch_parts (Some arch) = codes "." ∷ arch ∷ []
+arch_parts a = option_map_or (λ arch. codes "." ∷ arch ∷ []) a []
 
--- a version and a release, with a hyphen between them
-abbrev pub release_parts : List ℕ → List ℕ → List (List ℕ)
-release_parts v r = v ∷ codes "-" ∷ r ∷ []
-
--- a name and the hyphen after it
-abbrev pub name_parts : List ℕ → List (List ℕ)
-name_parts n = n ∷ codes "-" ∷ []
-
--- epoch, version and release, where the latter two are there
+-- epoch, version and release, with a hyphen between the latter two, where these are there
 abbrev pub evr_text : Option ℕ → Option (List ℕ) → Option (List ℕ) → Option (List (List ℕ))
-evr_text e (Some v) (Some r) = Some (epoch_parts e ++ release_parts v r)
+evr_text e (Some v) (Some r) = Some (epoch_parts e ++ v ∷ codes "-" ∷ r ∷ [])
 evr_text e _ _ = None
 
--- a package's label is its name, version and release, with an epoch and an architecture where these are given
+-- a package's label is its name, version and release with hyphens between them, and an epoch and an architecture where
+-- these are given
 abbrev pub label : Option (List ℕ) → Option ℕ → Option (List ℕ) → Option (List ℕ) → Option (List ℕ)
     → Option (List (List ℕ))
-label (Some n) e (Some v) (Some r) a = Some (name_parts n ++ epoch_parts e ++ release_parts v r ++ arch_parts a)
+label (Some n) e (Some v) (Some r) a =
+    Some (n ∷ codes "-" ∷ epoch_parts e ++ v ∷ codes "-" ∷ r ∷ arch_parts a)
 label _ e _ _ a = None
 
 -- a text that is made of parts
 abbrev pub as_text : Option (List (List ℕ)) → Option Elements
-as_text None = None
-as_text (Some ps) = Some (TextList (concat ps ∷ []))
+as_text parts = option_map (λ ps. TextList (concat ps ∷ [])) parts
 
 -- ---- FILENAMES
 
--- the text at a place, and the empty one where there is none
-abbrev pub text_at : List (List ℕ) → ℕ → List ℕ
-text_at ts i = unwrap_or (slice_get ts i) []
-
--- the directory of a file's index, and its name after it
-abbrev pub file_name : List (List ℕ) → ℕ × List ℕ → List ℕ
-file_name dirs (index, base) = text_at dirs index ++ base
-
--- the path of each file, from its index and its name
+-- the path of each file, from its index and its name: the directory of that index, and the name after it
 unfoldable pub file_names : List (List ℕ) → List ℕ → List (List ℕ) → List (List ℕ)
-file_names dirs indexes bases = map (file_name dirs) (zip indexes bases)
+file_names dirs indexes bases = map (λ file. unwrap_or (slice_get dirs file.0) [] ++ file.1) (zip indexes bases)
 
--- an index for each file, and a directory for each index
-abbrev pub are_matched : List (List ℕ) → List ℕ → List (List ℕ) → Bool
-are_matched dirs indexes bases =
-    length bases == length indexes && list_all (λ index. nat_lt index (length dirs)) indexes
-
--- the paths of the files, where the three tags are there and match
+-- the paths of the files, where the three tags are there, each file has an index and each index a directory
 abbrev pub filenames : Option (List (List ℕ)) → Option (List ℕ) → Option (List (List ℕ)) → Option (List (List ℕ))
 filenames (Some dirs) (Some indexes) (Some bases) =
-    if are_matched dirs indexes bases then Some (file_names dirs indexes bases) else None
+    if length bases == length indexes && list_all (λ index. nat_lt index (length dirs)) indexes
+    then Some (file_names dirs indexes bases) else None
 filenames _ _ _ = None
-
--- texts as a value, where there are some
-abbrev pub if_some_texts : Option (List (List ℕ)) → Option Elements
-if_some_texts None = None
-if_some_texts (Some ts) = Some (TextList ts)
 
 -- ---- all tags
 
@@ -174,5 +133,5 @@ value h number Nevra =
     (first_text h ARCH))
 value h number Epochnum = Some (NumberList (unwrap_or (first_number h EPOCH) 0 ∷ []))
 value h number Filenames =
-    if_some_texts (filenames (texts_in h DIRNAMES) (numbers_in h DIRINDEXES) (texts_in h BASENAMES))
+    option_map TextList (filenames (texts_in h DIRNAMES) (numbers_in h DIRINDEXES) (texts_in h BASENAMES))
 value h number Dbinstance = Some (NumberList (number ∷ []))

@@ -1,5 +1,5 @@
 -- What a question asks of a header: whether a file counts for a path, and what is needed or given at a place.
-use Rattle.std.specs.Prelude.{ℕ, Bool, false, ◌&&◌, ◌==◌, List, [], ◌∷◌, drop, Option, Some, None}
+use Rattle.std.specs.Prelude.{ℕ, Bool, ◌&&◌, ◌==◌, List, [], ◌∷◌, drop, Option, unwrap_or}
 use Rattle.std.specs.List.{list_any, zip, after_last}
 use Rattle.std.specs.Str.{bytes_eq}
 use Rattle.rpm_header.specs.Header.{Header}
@@ -7,30 +7,25 @@ use Rattle.rpm_tags.specs.declared.needed.Tags.{Tags}
 use Rattle.rpm_tags.specs.Numbers.{DIRINDEXES, BASENAMES, DIRNAMES}
 use Rattle.rpm_tags.specs.Value.{filenames, texts_in, numbers_in}
 
+-- the elements of a list, and none where it is missing
+abbrev pub list_or_empty : {X : Type 0} → Option (List X) → List X
+list_or_empty xs = unwrap_or xs []
+
 -- ---- files
 
--- a slash, which ends the name of a directory
-abbrev pub is_slash : ℕ → Bool
-is_slash b = b == 47
-
--- what follows the last slash of a path, or all of it where it has none
+-- what follows the last slash (47) of a path, or all of it where it has none
 abbrev pub base_name : List ℕ → List ℕ
-base_name path = after_last is_slash path
+base_name path = after_last (λ b. b == 47) path
 
 -- a file, by its path and its name, counts for this path
 abbrev pub counts_for : List ℕ → List ℕ × List ℕ → Bool
 counts_for path (file, base) = bytes_eq file path && bytes_eq base (base_name path)
 
--- one of the files counts for this path
-abbrev pub any_counts_for : List ℕ → Option (List (List ℕ)) → Option (List (List ℕ)) → Bool
-any_counts_for path (Some files) (Some bases) = list_any (counts_for path) (zip files bases)
-any_counts_for path _ _ = false
-
 -- an element of FILENAMES counts for this path
 unfoldable pub has_file : Header → List ℕ → Bool
 has_file h path =
-    any_counts_for path (filenames (texts_in h DIRNAMES) (numbers_in h DIRINDEXES) (texts_in h BASENAMES))
-    (texts_in h BASENAMES)
+    let files = filenames (texts_in h DIRNAMES) (numbers_in h DIRINDEXES) (texts_in h BASENAMES) in
+    list_any (counts_for path) (zip (list_or_empty files) (list_or_empty (texts_in h BASENAMES)))
 
 -- ---- what is needed or given
 
@@ -39,11 +34,6 @@ pub record Need : Type 0 where
   pub name : List ℕ
   pub flags : ℕ
   pub version : List ℕ
-
--- the elements of a list, and none where it is missing
-abbrev pub list_or_empty : {X : Type 0} → Option (List X) → List X
-list_or_empty None = []
-list_or_empty (Some xs) = xs
 
 -- the first element, or another where there is none
 abbrev pub first_or : {X : Type 0} → X → List X → X

@@ -1,7 +1,7 @@
 //! The paths of a package's files.
 
 ghost use Rattle.std.specs.Prelude.{◌≡◌, ℕ, ◌<◌, ◌≤◌, ◌++◌, IsTrue, length, Some, slice_get, nat_lt, false, IfSome, MatchOption};
-ghost use Rattle.rpm_tags.specs.Prelude.{are_matched, AreAsked, BASENAMES, concat, DIRINDEXES, DIRNAMES, file_name, filenames, item_count, list_all, max_data, numbers_in, texts_in, YieldsFirstBy};
+ghost use Rattle.rpm_tags.specs.Prelude.{are_matched, AreAsked, concat, file_name, filenames, item_count, list_all, max_data, numbers_in, texts_in, YieldsFirstBy};
 
 use crate::dirs::{Directories, go_back};
 use crate::joined::Joined;
@@ -31,7 +31,8 @@ pub struct Files<'a> {
 
 impl<'a> Model for Files<'a> {
     ghost use Rattle.std.specs.Prelude.{◌≡◌, List, ℕ, true};
-    ghost use Rattle.rpm_tags.specs.Value.{file_names, are_matched};
+    ghost use Rattle.rpm_tags.specs.Value.{file_names};
+    ghost use Rattle.rpm_tags.specs.inner.Paths.{are_matched};
 
     ghost Value = { List (List ℕ) };
 

@@ -1,7 +1,7 @@
 //! The keys by which a package is found.
 
 ghost use Rattle.std.specs.Prelude.{◌≡◌, ℕ, ◌+◌, ◌^◌, ◌<◌, ◌∷◌, [], map, MatchOption, List};
-ghost use Rattle.rpm_tags.specs.Prelude.{item_count, key_bytes, key_list, keys, keys_left, KeysHavePlaces, list_or_empty, number_key, placed_keys, tag_of_kind, YieldsFirstBy};
+ghost use Rattle.rpm_tags.specs.Prelude.{code_and_tag, item_count, key_bytes, key_list, keys, keys_left, KeysHavePlaces, list_or_empty, number_key, placed_keys, YieldsFirstBy};
 
 use crate::kind::Kind;
 use crate::numbers;
@@ -147,7 +147,7 @@ impl<'a> Iterator for KeyIter<'a> {
 
 /// The tag whose elements are the keys of a kind.
 fn tag_of_kind(kind: Kind) -> u32
-    ensures { result ≡ tag_of_kind kind }
+    ensures { result ≡ (code_and_tag kind).1 }
 {
     match kind {
         Kind::Name => numbers::NAME,

@@ -1,7 +1,7 @@
 //! The texts that are made of a package's name, epoch, version, release and architecture.
 
 ghost use Rattle.std.specs.Prelude.{◌≡◌, ℕ, ◌+◌, ◌≤◌, ◌<◌, ◌++◌, length, IfSome};
-ghost use Rattle.rpm_tags.specs.Prelude.{arch_parts, EPOCH, epoch_parts, evr_text, first_number, first_text, label, max_data, NAME, name_parts, option_copied, RELEASE, release_parts, VERSION};
+ghost use Rattle.rpm_tags.specs.Prelude.{arch_parts, epoch_parts, evr_text, first_number, first_text, label, max_data, name_parts, option_copied, release_parts};
 
 use crate::joined::Joined;
 use crate::numbers::{EPOCH, NAME, RELEASE, VERSION};

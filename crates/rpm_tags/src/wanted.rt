@@ -1,7 +1,7 @@
 //! Whether a package has a file of a path.
 
 ghost use Rattle.std.specs.Prelude.{◌≡◌, ◌<◌, ◌≤◌, ◌++◌, not, true, Some, length};
-ghost use Rattle.rpm_tags.specs.Prelude.{any_counts_for, are_matched, base_name, counts_for, file_name, file_names, filenames, has_file, is_slash, list_any, numbers_in, suffix_len, texts_in, zip};
+ghost use Rattle.rpm_tags.specs.Prelude.{are_matched, base_name, counts_for, file_name, file_names, filenames, has_file, is_slash, list_any, list_or_empty, numbers_in, suffix_len, texts_in, zip};
 
 use crate::dirs::{Directories, go_back};
 use crate::files::asked_for;
@@ -83,7 +83,7 @@ fn is_any_far(dirs: &Texts<'_>, indexes: &Numbers<'_>, bases: &Texts<'_>, path: 
 }
 
 fn is_any_in(dirs: Texts<'_>, indexes: &Numbers<'_>, bases: &Texts<'_>, path: &[u8]) -> bool
-    ensures { result ≡ any_counts_for path.now (filenames (Some dirs.entry) (Some indexes.now) (Some bases.now)) (Some bases.now) }
+    ensures { result ≡ list_any (counts_for path.now) (zip (list_or_empty (filenames (Some dirs.entry) (Some indexes.now) (Some bases.now))) bases.now) }
 {
     let dirs = match asked_for(dirs, indexes, bases) {
         None => return false,

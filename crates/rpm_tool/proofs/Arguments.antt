@@ -1,8 +1,9 @@
 -- Words that break no rule: each argument of a query is a question.
 use Rattle.std.proofs.Common.{◌≡◌, ℕ, Bool, ◌&&◌, true, false, subst, if◌then◌else◌, List, [], ◌∷◌, Option, Some, None, is_some, Result, Ok, Err, refl}
-use Rattle.rpm_tool.proofs.Vocabulary.{AllByRecursion, AreQuestions, ask, AskParts, BadCapability, capability, capability_in, CapabilityParts, Chosen}
+use Rattle.rpm_tool.proofs.Vocabulary.{AllByRecursion, AreQuestions, ask, AskParts, BadCapability, capability, CapabilityParts, Chosen}
 use Rattle.rpm_tool.proofs.Vocabulary.{fit_arguments, is_err, is_none, is_package, is_query, is_question, IsFit, Mode, number, of_files, option_map}
 use Rattle.rpm_tool.proofs.Vocabulary.{Selection, word_at, WordsFault}
+use Rattle.std.specs.Result.{result_ok}
 use Rattle.rpm_words.specs.declared.switch.Chosen.TheVariants as by
 use Rattle.rpm_words.specs.declared.ask.Mode.TheVariants as mode
 
@@ -11,7 +12,7 @@ each_then so [] t = tt
 each_then {P = P} {Q = Q} so (x ∷ xs) t = (so x t.0, each_then {P = P} {Q = Q} so xs t.1)
 
 a_capability : (of : CapabilityParts → Selection) (r : Result CapabilityParts BadCapability) (f : WordsFault)
-    → (if is_err r then Some f else None) ≡ None → is_some (capability_in of r) ≡ true
+    → (if is_err r then Some f else None) ≡ None → is_some (option_map of (result_ok r)) ≡ true
 a_capability of (Ok c) f none = refl
 a_capability of (Err bad) f none = absurd cc
 

@@ -1,9 +1,9 @@
 -- Commands that were begun, and one that was not.
 use Rattle.std.proofs.Common.{◌≡◌, ◌∙◌, ℕ, ◌+◌, ◌≤◌, Bool, true, false, not, List, [], Some, refl, sym, ap}
 use Rattle.std.proofs.lemmas.Bool.{and_parts}
-use Rattle.rpm_tool.proofs.Vocabulary.{AskParts, by_key, Chosen, request_of, PlainProgress, Files, is_changing, is_changing_in, is_foreign, is_of_words, is_package}
+use Rattle.rpm_tool.proofs.Vocabulary.{AskParts, by_key, Chosen, asked_task, request_of, PlainProgress, Files, is_foreign, is_of_words, is_package}
 use Rattle.rpm_tool.proofs.Vocabulary.{is_query, log_state, Mode, needs_no_index, of_files, opens_index, outputs, PlainAnswer, read_to, reopened, store, Through}
-use Rattle.rpm_tool.proofs.Vocabulary.{text_of, Tree, Why}
+use Rattle.rpm_tool.proofs.Vocabulary.{task_in, TaskParts, text_of, Tree, Why}
 use Rattle.rpm_words.specs.declared.switch.Chosen.TheVariants as by
 use Rattle.rpm_words.specs.declared.ask.Mode.TheVariants as mode
 use Rattle.rpm_effects.specs.declared.answer.Why.TheVariants as why
@@ -38,13 +38,14 @@ text_of_opening others asked text opens said = absurd cc
 pub keyed_untold : (a : AskParts) (text : List ℕ) → by_key a ≡ true → text_of a.mode ≡ Some text → ⊥
 keyed_untold a text keyed said = text_of_opening a.mode (not (needs_no_index a.chosen a.noindex)) text keyed said
 
-text_of_change : (m : Mode) (text : List ℕ) → is_changing_in m ≡ true → text_of m ≡ Some text → ⊥
-text_of_change mode.Help text changes said = cc
-text_of_change mode.Version text changes said = cc
-text_of_change others text changes said = absurd cc
+module _ (words : List (List ℕ)) (a : AskParts) (task : TaskParts) where
+  text_of_change : (m : Mode) (text : List ℕ) → task_in m words a ≡ Some task → text_of m ≡ Some text → ⊥
+  text_of_change mode.Help text changes said = cc
+  text_of_change mode.Version text changes said = cc
+  text_of_change others text changes said = cc
 
-pub change_untold : (a : AskParts) (text : List ℕ) → is_changing a ≡ true → text_of a.mode ≡ Some text → ⊥
-change_untold a text changes said = text_of_change a.mode text changes said
+  pub change_untold : (text : List ℕ) → asked_task words a ≡ Some task → text_of a.mode ≡ Some text → ⊥
+  change_untold text changes said = text_of_change a.mode text changes said
 
 -- an ending of a command that was begun is none of words
 pub unforeign : (w : Why) → is_foreign w ≡ false → is_of_words w ≡ false
@@ -70,16 +71,19 @@ files_unkeyed a files keyed =
 
 -- ---- a query changes nothing
 
-query_changes : (m : Mode) → is_query m ≡ true → is_changing_in m ≡ true → ⊥
-query_changes mode.Query is changes = absurd cc
-query_changes others is changes = absurd cc
+module _ (words : List (List ℕ)) (a : AskParts) (task : TaskParts) where
+  query_changes : (m : Mode) → is_query m ≡ true → task_in m words a ≡ Some task → ⊥
+  query_changes mode.Query is changes = cc
+  query_changes others is changes = absurd cc
 
-pub files_unchanging : (a : AskParts) → of_files a ≡ true → is_changing a ≡ true → ⊥
-files_unchanging a files changes = query_changes a.mode (and_parts (is_query a.mode) (is_package a.chosen) files).0 changes
+  pub files_unchanging : of_files a ≡ true → asked_task words a ≡ Some task → ⊥
+  files_unchanging files changes = query_changes a.mode (and_parts (is_query a.mode) (is_package a.chosen) files).0 changes
 
-opening_changes : (m : Mode) (asked : Bool) → opens_index m asked ≡ true → is_changing_in m ≡ true → ⊥
-opening_changes mode.Query asked opens changes = absurd cc
-opening_changes others asked opens changes = absurd cc
+  opening_changes : (m : Mode) (asked : Bool) → opens_index m asked ≡ true → task_in m words a ≡ Some task → ⊥
+  opening_changes mode.Query asked opens changes = cc
+  opening_changes mode.Verify asked opens changes = cc
+  opening_changes mode.Order asked opens changes = cc
+  opening_changes others asked opens changes = absurd cc
 
-pub keyed_unchanging : (a : AskParts) → by_key a ≡ true → is_changing a ≡ true → ⊥
-keyed_unchanging a keyed changes = opening_changes a.mode (not (needs_no_index a.chosen a.noindex)) keyed changes
+  pub keyed_unchanging : by_key a ≡ true → asked_task words a ≡ Some task → ⊥
+  keyed_unchanging keyed changes = opening_changes a.mode (not (needs_no_index a.chosen a.noindex)) keyed changes

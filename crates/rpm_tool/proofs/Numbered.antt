@@ -4,20 +4,21 @@ use Rattle.std.proofs.lemmas.List.{append-nil}
 use Rattle.std.proofs.lemmas.List.Elements.{filter-append}
 use Rattle.std.proofs.lemmas.Bool.Decides.{nat_tests}
 use Rattle.rpm_tool.proofs.Vocabulary.{above, answered_part, argument_part, Bearer, Chosen, is_picked, lent, missing_part, nat_cmp, Package, picked_packages, picked_by}
-use Rattle.rpm_tool.proofs.Vocabulary.{picks, query_of, question_of, RisesFrom, Selection, step_of, Tree, with_number}
+use Rattle.rpm_tool.proofs.Vocabulary.{cons_option, picks, query_of, question_of, RisesFrom, Selection, step_of, Tree}
 use Rattle.std.specs.FinMap as finite
 use Rattle.rpm_words.specs.declared.switch.Chosen.TheVariants as by
 use Rattle.rpm_select.specs.declared.selection.Selection.TheVariants as question
 use Rattle.rpm_effects.specs.Steps.{Step, bearer_of}
 use Rattle.rpm_effects.specs.Portions.{parts_in_turn, numbers_of_steps}
-use Rattle.rpm_tool.specs.Requests.{is_above, steps_above}
+use Rattle.rpm_tool.specs.Requests.{steps_above}
+use Rattle.rpm_tool.specs.inner.Words.{is_above}
 use Rattle.rpm_print.specs.laws.Printed.{bearer-step_of}
 use Rattle.rpm_query.specs.laws.Rising.{rises_above}
 
 told_numbers : (tree : Tree) (j : ℕ) (es : List (ℕ × Package)) → numbers_of_steps (map (step_of tree j) es) ≡ map (λ e. e.0) es
 told_numbers tree j [] = refl
 told_numbers tree j (e ∷ es) =
-    ap (λ (b : Bearer). with_number b.number (numbers_of_steps (map (step_of tree j) es))) (bearer-step_of tree j e)
+    ap (λ (b : Bearer). cons_option b.number (numbers_of_steps (map (step_of tree j) es))) (bearer-step_of tree j e)
     ∙ ap (λ (ns : List ℕ). e.0 ∷ ns) (told_numbers tree j es)
 
 missing_numbers : (chosen : Chosen) (j : ℕ) (text : List ℕ) → numbers_of_steps (missing_part chosen j text).steps ≡ []

@@ -1,14 +1,15 @@
 -- The records of the theorem's page, from what each kind of command says.
-use Rattle.std.proofs.Common.{◌≡◌, ◌∙◌, ℕ, List, Bool, true, false, Some, None, Ok, refl, sym, ap, subst, inl, inr, arith}
+use Rattle.std.proofs.Common.{◌≡◌, ◌∙◌, ℕ, List, Bool, true, false, Option, Some, None, is_some, Ok, refl, sym, ap, subst, inl, inr, arith}
 use Rattle.std.specs.Prelude.{◌⊎◌, IsTrue}
 use Rattle.rpm_outside.specs.declared.disk.Disk as disk
 use Rattle.rpm_outside.specs.declared.shelf.Shelf as shelf
 use Rattle.rpm_outside.specs.declared.sink.Sink as sink
-use Rattle.rpm_tool.proofs.Vocabulary.{Answers, AnswersChange, AnswersKeyed, AnswersOfFiles, AnswersPlain, AnswersText, asked_course, ask, asked_task}
-use Rattle.rpm_tool.proofs.Vocabulary.{AskParts, asks_change, asks_format, Buffered, by_key, changes_in, AnswersCommand, EmptyBy, is_changing, is_done, is_foreign}
+use Rattle.rpm_tool.proofs.Vocabulary.{Answers, AnswersChange, AnswersKeyed, AnswersOfFiles, AnswersPlain, AnswersText, ask, asked_task}
+use Rattle.rpm_tool.proofs.Vocabulary.{AskParts, asks_change, asks_format, Buffered, by_key, changes_in, AnswersCommand, EmptyBy, is_done, is_foreign}
 use Rattle.rpm_tool.proofs.Vocabulary.{HasCauseAt, inner, is_of_words, OnlyReadsPackages, needs_none, of_files, outputs, Pkg, ran, reads_shelf}
 use Rattle.rpm_tool.proofs.Vocabulary.{reopened, Run, setting_at, Setting, Streams}
-use Rattle.rpm_tool.proofs.Vocabulary.{text_of, Tree, Why}
+use Rattle.rpm_tool.proofs.Vocabulary.{task_course, TaskParts, text_of, Tree, Why}
+use Rattle.std.specs.Option.{option_map_or}
 use Rattle.rpm_effects.specs.Hands.{Hand, EndHands}
 use Rattle.rpm_effects.specs.declared.answer.Why.TheVariants as why
 use Rattle.rpm_tool.proofs.Begun.{change_untold, files_unchanging, files_unkeyed, files_untold, keyed_unchanging, keyed_untold, not_begun, unforeign}
@@ -27,16 +28,19 @@ clash is not = let both : true ≡ false = sym is ∙ not in absurd cc
 none_said : {P : Type 0} {X : Type 0} {o : _} {x : X} → o ≡ None → o ≡ Some x → P
 none_said {x = x} none some = let both : None ≡ Some x = sym none ∙ some in absurd cc
 
+same_some : {X : Type 0} {o : _} {x y : X} → o ≡ Some x → o ≡ Some y → x ≡ y
+same_some {x = x} {y = y} one other = let both : Some x ≡ Some y = sym one ∙ other in cc
+
 module _ {D S : Type 0} {d : disk.Ghosts D} {s : shelf.Ghosts S} {r : Run d} {at : Setting s} {a : AskParts} {tree : Tree} where
-  pub does_plain : of_files a ≡ false → by_key a ≡ false → is_changing a ≡ false → text_of a.mode ≡ None
+  pub does_plain : of_files a ≡ false → by_key a ≡ false → asked_task r.words a ≡ None → text_of a.mode ≡ None
       → (IsTrue d.tells → AnswersPlain r a tree) → OnlyReadsPackages d r.found r.left → at.shelf_left ≡ at.shelf → AnswersCommand r at a tree
   does_plain files keyed changing untold went looks shelf = record {
     plain = λ _f _k _c _t told. went told;
     files = λ is. clash is files;
     text = λ text said. none_said untold said;
     keyed = λ is told. clash is keyed;
-    changes = λ is told reads. clash is changing;
-    empty = λ is told. clash is changing;
+    changes = λ task is told reads. none_said changing is;
+    empty = λ task is told. none_said changing is;
     looks = λ _k _c. looks;
     shelf_unread = λ _f _r. shelf;
   }
@@ -47,8 +51,8 @@ module _ {D S : Type 0} {d : disk.Ghosts D} {s : shelf.Ghosts S} {r : Run d} {at
     files = λ is. went;
     text = λ text said. absurd (files_untold a text files said);
     keyed = λ is told. absurd (files_unkeyed a files is);
-    changes = λ is told reads. absurd (files_unchanging a files is);
-    empty = λ is told. absurd (files_unchanging a files is);
+    changes = λ task is told reads. absurd (files_unchanging r.words a task files is);
+    empty = λ task is told. absurd (files_unchanging r.words a task files is);
     looks = λ _k _c. looks;
     shelf_unread = λ other _r. clash files other;
   }
@@ -61,50 +65,50 @@ module _ {D S : Type 0} {d : disk.Ghosts D} {s : shelf.Ghosts S} {r : Run d} {at
     files = λ is. absurd (files_unkeyed a is keyed);
     text = λ text said. absurd (keyed_untold a text keyed said);
     keyed = λ is told. went told;
-    changes = λ is told reads. absurd (keyed_unchanging a keyed is);
-    empty = λ is told. absurd (keyed_unchanging a keyed is);
+    changes = λ task is told reads. absurd (keyed_unchanging r.words a task keyed is);
+    empty = λ task is told. absurd (keyed_unchanging r.words a task keyed is);
     looks = λ other _c. clash keyed other;
     shelf_unread = λ _f _r. shelf;
   }
 
-  pub does_change : is_changing a ≡ true
-      → (IsTrue d.tells → (reads_shelf (asked_task r.words a) ≡ true → IsTrue s.tells)
-      → AnswersChange r (asked_task r.words a) (asked_course (s.paths at.shelf) at.moment r.words a))
-      → (IsTrue d.tells → EmptyBy (needs_none (asked_task r.words a)) (reopened (d.files r.found)) r.why)
-      → (reads_shelf (asked_task r.words a) ≡ false → at.shelf_left ≡ at.shelf) → AnswersCommand r at a tree
-  does_change changing went empty shelf = record {
-    plain = λ _f _k other _t told. clash changing other;
-    files = λ is. absurd (files_unchanging a is changing);
-    text = λ text said. absurd (change_untold a text changing said);
-    keyed = λ is told. absurd (keyed_unchanging a is changing);
-    changes = λ is told reads. went told reads;
-    empty = λ is told. empty told;
-    looks = λ _k other. clash changing other;
-    shelf_unread = λ _f reads. shelf reads;
+  pub does_change : {task : TaskParts} → asked_task r.words a ≡ Some task
+      → (IsTrue d.tells → (reads_shelf task ≡ true → IsTrue s.tells) → AnswersChange r task (task_course (s.paths at.shelf) at.moment task))
+      → (IsTrue d.tells → EmptyBy (needs_none task) (reopened (d.files r.found)) r.why)
+      → (reads_shelf task ≡ false → at.shelf_left ≡ at.shelf) → AnswersCommand r at a tree
+  does_change {task = task} changing went empty shelf = record {
+    plain = λ _f _k other _t told. none_said other changing;
+    files = λ is. absurd (files_unchanging r.words a task is changing);
+    text = λ text said. absurd (change_untold r.words a task text changing said);
+    keyed = λ is told. absurd (keyed_unchanging r.words a task is changing);
+    changes = λ other is. subst (λ (t : TaskParts). IsTrue d.tells → (reads_shelf t ≡ true → IsTrue s.tells)
+        → AnswersChange r t (task_course (s.paths at.shelf) at.moment t)) (same_some changing is) went;
+    empty = λ other is. subst (λ (t : TaskParts). IsTrue d.tells → EmptyBy (needs_none t) (reopened (d.files r.found)) r.why)
+        (same_some changing is) empty;
+    looks = λ _k other. none_said other changing;
+    shelf_unread = λ _f reads. shelf (sym (ap (λ (o : Option TaskParts). option_map_or reads_shelf o false) changing) ∙ reads);
   }
 
   pub does_text : {text : List ℕ} → text_of a.mode ≡ Some text → AnswersText r at text → OnlyReadsPackages d r.found r.left → AnswersCommand r at a tree
   does_text {text = text} said went looks = record {
     plain = λ _f _k _c none told. none_said none said;
     files = λ is. absurd (files_untold a text is said);
-    text = λ other is. let both : Some text ≡ Some other = sym said ∙ is in
-        subst (λ (t : List ℕ). AnswersText r at t) (let same : text ≡ other = cc in same) went;
+    text = λ other is. subst (λ (t : List ℕ). AnswersText r at t) (same_some said is) went;
     keyed = λ is told. absurd (keyed_untold a text is said);
-    changes = λ is told reads. absurd (change_untold a text is said);
-    empty = λ is told. absurd (change_untold a text is said);
+    changes = λ task is told reads. absurd (change_untold r.words a task text is said);
+    empty = λ task is told. absurd (change_untold r.words a task text is said);
     looks = λ _k _c. looks;
     shelf_unread = λ _f _r. went.unread.1;
   }
 
   -- a command that was read is the one that the words ask for
-  pub answered : (ask r.words ≡ Ok a) × (asks_format r.words ≡ Some (Ok tree)) → (is_changing a ≡ false → r.changes ≡ 0)
+  pub answered : (ask r.words ≡ Ok a) × (asks_format r.words ≡ Some (Ok tree)) → (is_some (asked_task r.words a) ≡ false → r.changes ≡ 0)
       → (is_done r.why ≡ false → r.changes ≡ 0) → (IsTrue s.tells → s.paths at.shelf_left ≡ s.paths at.shelf) → d.follows r.found r.left
       → AnswersCommand r at a tree → Answers r at
   unfolding asks_change
   answered read still counted paths goes_on does = record {
     asked = λ b other asked. same_asked (λ x t. AnswersCommand r at x t) r.words (asked_is r.words read) asked does;
     unasked = λ none. asked_some r.words read none;
-    idle = λ no. still (sym (ap changes_in read.0) ∙ no);
+    idle = λ no. still (sym (ap (changes_in r.words) read.0) ∙ no);
     counted = counted;
     paths = paths;
     goes_on = goes_on;
@@ -167,9 +171,9 @@ module _ {D S : Type 0} {d : disk.Ghosts D} {s : shelf.Ghosts S} (words : List (
       unread = (refl, refl);
     };
     keyed = λ is told. unbegun d tree words a ot et o e it;
-    changes = λ is told reads. unmade_one d words (asked_task words a) (asked_course (s.paths at) now words a) it it refl
+    changes = λ task is told reads. unmade_one d words task (task_course (s.paths at) now task) it it refl
         (same_kept (d.files it)) (idle_run d it) (outputs ot o et e) why.NoMemory tt;
-    empty = λ is told. memory_empty (needs_none (asked_task words a)) (reopened (d.files it));
+    empty = λ task is told. memory_empty (needs_none task) (reopened (d.files it));
     looks = λ _k _c. leaves_none d stays;
     shelf_unread = λ _f _r. refl;
   }

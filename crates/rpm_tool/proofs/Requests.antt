@@ -1,12 +1,14 @@
 -- What a command does with the database that it opens: where nothing was done, and how it ends.
 use Rattle.std.proofs.Common.{◌≡◌, ℕ, Bool, true, false, List, [], refl}
 use Rattle.rpm_tool.proofs.Vocabulary.{always_keyed, Anywhere, AskParts, Bearer, check_files, Course, Request, request_of, RequestProgress, export, graph_of}
-use Rattle.rpm_tool.proofs.Vocabulary.{is_done_or_outside, is_foreign, is_query, Mode, opens_index, ordering, Outputs, packages, query, Store, Through, Tree}
-use Rattle.rpm_tool.proofs.Vocabulary.{Units, unless_starved, unsatisfied_report, verify, CommandProgress, Why}
+use Rattle.rpm_tool.proofs.Vocabulary.{is_done_or_outside, is_foreign, is_query, Mode, opens_index, order_part, Outputs, packages, query, Store, Through, Tree}
+use Rattle.rpm_tool.proofs.Vocabulary.{Units, unless_starved, unsatisfied_part, verify, CommandProgress, Why}
 use Rattle.rpm_words.specs.declared.ask.Mode.TheVariants as mode
 use Rattle.rpm_effects.specs.declared.answer.Why.TheVariants as why
-use Rattle.rpm_print.specs.declared.reading.Request.TheVariants as request
+use Rattle.rpm_command.specs.declared.reading.Request.TheVariants as request
 use Rattle.rpm_commit.specs.laws.ByEnding.{by_starved}
+use Rattle.rpm_effects.specs.Portions.{before_others}
+use Rattle.rpm_effects.specs.Steps.{idle}
 use Rattle.rpm_tool.proofs.Loading.{went_reads}
 use Rattle.rpm_report.specs.laws.Reporting.{none_listed}
 use Rattle.rpm_effects.specs.laws.Reaching.{not_begun}
@@ -68,8 +70,8 @@ module _ (tree : Tree) (file : Units) (s : Store) (words : List (List ℕ)) (a :
     does_outside request.Export w own does = went_outside (export (packages file s)) w old new reads_to own does
     does_outside request.Verify w own does = went_outside (verify file s) w old new reads_to own does
     does_outside request.CheckFiles w own does = went_outside (check_files (packages file s)) w old new reads_to own does
-    does_outside request.Unmet w own does = went_outside (unsatisfied_report (packages file s)) w old new Anywhere own does
-    does_outside request.Order w own does = went_outside (ordering (packages file s) does.0) w old new Anywhere own does.2
+    does_outside request.Unmet w own does = went_outside (before_others (unsatisfied_part (packages file s)) idle) w old new Anywhere own does
+    does_outside request.Order w own does = went_outside (before_others (order_part (packages file s) does.0) idle) w old new Anywhere own does.2
 
   pub does_memory : (reads_to : Bearer → Type 0) (x : Outputs) → Through [] x x → (d : Request)
       → RequestProgress d tree file s words a reads_to why.NoMemory x x

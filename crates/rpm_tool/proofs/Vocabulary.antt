@@ -5,7 +5,8 @@ pub use Rattle.rpm_check.specs.Edges.{graph_of}
 pub use Rattle.rpm_commit.specs.Changing.{EmptyBy}
 pub use Rattle.rpm_effects.specs.Endings.{unless_starved, why_of_recover}
 pub use Rattle.rpm_commit.specs.Lawful.{AreLawfulDatabases, HasUsableIndex, KeepsPackages, IsLawfulAndSame}
-pub use Rattle.rpm_commit.specs.Tasks.{asked_course, asked_task, needs_none, reads_shelf, task_course}
+pub use Rattle.rpm_command.specs.Tasks.{asked_task, task_parts, TaskParts}
+pub use Rattle.rpm_commit.specs.Tasks.{needs_none, reads_shelf, task_course}
 pub use Rattle.rpm_commit.specs.Stages.{Streams}
 pub use Rattle.rpm_db.specs.Database.{Database, is_blank_database, is_indexed, without_index}
 pub use Rattle.rpm_db.specs.Database.{store_of}
@@ -31,11 +32,12 @@ pub use Rattle.rpm_outside.specs.laws.Looking.{looks_then}
 pub use Rattle.rpm_outside.specs.laws.Moments.{leaves_then, leaves_weaker, started}
 pub use Rattle.rpm_pkgdb.specs.Store.{Store, store}
 pub use Rattle.rpm_pkgdb.specs.declared.slot.Damage.{Damage}
-pub use Rattle.rpm_effects.specs.Answers.{Closes, ClosingEnding, RefusalIs, CommandProgress}
-pub use Rattle.rpm_print.specs.Answers.{Undone}
-pub use Rattle.rpm_print.specs.Asked.{always_keyed, by_key, changes_in, command_and_format, request_of, format_in, is_changing, is_changing_in, is_package}
-pub use Rattle.rpm_print.specs.Asked.{is_query, needs_no_index, of_files, opens_index}
-unfoldable pub use Rattle.rpm_print.specs.Asked.{asks, asks_change, asks_format}
+pub use Rattle.rpm_effects.specs.Answers.{ClosingEnding, RefusalIs, CommandProgress}
+pub use Rattle.rpm_effects.specs.laws.Closing.{Closes}
+pub use Rattle.rpm_command.specs.Answers.{Undone}
+pub use Rattle.rpm_command.specs.Asked.{always_keyed, by_key, request_of, is_query, needs_no_index, of_files}
+pub use Rattle.rpm_command.specs.laws.Asking.{changes_in, command_and_format, format_in, is_package, opens_index, task_in}
+unfoldable pub use Rattle.rpm_command.specs.Asked.{asks, asks_change, asks_format}
 pub use Rattle.rpm_effects.specs.Classes.{is_done, is_done_or_outside, is_foreign, is_of_opening, is_of_streams, is_of_words, is_refusal}
 unfoldable pub use Rattle.rpm_print.specs.Closing.{closing}
 pub use Rattle.rpm_print.specs.Frame.{OnlyReadsPackages, OnlyReadsIndexed, pkg_read}
@@ -43,27 +45,29 @@ pub use Rattle.rpm_db.specs.Frame.{packages_in, Runs}
 pub use Rattle.rpm_effects.specs.Shown.{outs, shown_outputs}
 pub use Rattle.rpm_print.specs.Printed.{step_of}
 pub use Rattle.rpm_print.specs.Reads.{reach_sum, reached_by}
-pub use Rattle.rpm_effects.specs.Portions.{RisesFrom, with_number}
-pub use Rattle.rpm_print.specs.Texts.{text_of}
+pub use Rattle.rpm_effects.specs.Portions.{RisesFrom}
+pub use Rattle.rpm_command.specs.Texts.{text_of}
 pub use Rattle.rpm_effects.specs.declared.answer.Why.{Why}
-pub use Rattle.rpm_print.specs.declared.reading.Request.{Request}
+pub use Rattle.rpm_command.specs.declared.reading.Request.{Request}
 pub use Rattle.rpm_qfparse.specs.Tree.{Tree}
 pub use Rattle.rpm_qfparse.specs.declared.fault.FormatFault.{FormatFault}
-pub use Rattle.rpm_query.specs.Queries.{answered_part, AreQuestions, argument_part, capability_in, export, is_question, lent, picked_by, query, query_of}
-pub use Rattle.rpm_query.specs.Queries.{question_of}
+pub use Rattle.rpm_query.specs.Queries.{answered_part, AreQuestions, argument_part, export, lent, query, query_of, question_of}
+pub use Rattle.rpm_query.specs.laws.Answering.{is_question, picked_by}
 unfoldable pub use Rattle.rpm_query.specs.Queries.{missing_part, picked_packages}
 unfoldable pub use Rattle.rpm_query.specs.Reach.{argument_reach}
 pub use Rattle.rpm_report.specs.FileReport.{check_files}
 pub use Rattle.rpm_report.specs.Reports.{verify}
-pub use Rattle.rpm_report.specs.Requirements.{order_part, ordering, unsatisfied_report, unsatisfied_part}
+pub use Rattle.rpm_report.specs.Requirements.{order_part, unsatisfied_part}
 pub use Rattle.rpm_select.specs.Reach.{HasIndexRows, Reach}
 pub use Rattle.rpm_select.specs.Selections.{is_picked}
 unfoldable pub use Rattle.rpm_select.specs.Selections.{picks}
 pub use Rattle.rpm_select.specs.declared.selection.Selection.{Selection}
 pub use Rattle.rpm_select.specs.laws.Unindexed.{no_index_rows}
-pub use Rattle.rpm_tool.specs.Requests.{asked_reaches, blocks_cost, StoreAnswerBy, PlainProgress, RequestProgress, LogAnswer, StoreAnswer, PlainAnswer, query_cost, read_to}
-pub use Rattle.rpm_tool.specs.Keyed.{BadIs, CauseIs, KeyedProgress, FullByUnits, IndexFullIs, has_index, HasRoom, IsAtRest, IsUsable}
-pub use Rattle.rpm_tool.specs.Keyed.{IsUsableDatabase, keyed_cost, keyed_to, KeyedAnswer, OnUsable, UnlessFull}
+pub use Rattle.rpm_commit.specs.laws.Words.{LogAnswer, StoreAnswer, StoreAnswerBy}
+pub use Rattle.rpm_tool.specs.Requests.{asked_reaches, blocks_cost, RequestProgress, PlainAnswer, query_cost}
+pub use Rattle.rpm_tool.specs.inner.Words.{CauseIs, FullByUnits, has_index, keyed_to, KeyedProgress, OnUsable, PlainProgress, read_to, UnlessFull}
+pub use Rattle.rpm_tool.specs.Keyed.{BadIs, IndexFullIs, HasRoom, IsAtRest, IsUsable}
+pub use Rattle.rpm_tool.specs.Keyed.{IsUsableDatabase, keyed_cost, KeyedAnswer}
 pub use Rattle.rpm_tool.specs.Theorem.{Answers, AnswersChange, AnswersKeyed, AnswersOfFiles, AnswersPlain, AnswersText, AnswersCommand, ran, Run, setting_at, Setting}
 pub use Rattle.rpm_version.specs.Capability.{capability, CapabilityParts}
 pub use Rattle.rpm_version.specs.declared.capability.BadCapability.{BadCapability}
@@ -75,7 +79,7 @@ pub use Rattle.rpm_words.specs.declared.ask.Mode.{Mode}
 pub use Rattle.rpm_words.specs.declared.fault.WordsFault.{WordsFault}
 pub use Rattle.rpm_words.specs.declared.switch.Chosen.{Chosen}
 pub use Rattle.rpm_words.specs.laws.Given.{fit_arguments}
-pub use Rattle.std.specs.List.{AllByRecursion}
+pub use Rattle.std.specs.List.{AllByRecursion, cons_option}
 pub use Rattle.std.specs.Option.{is_none, option_map}
 pub use Rattle.std.specs.Ordering.{nat_cmp}
 pub use Rattle.std.specs.Result.{is_err}

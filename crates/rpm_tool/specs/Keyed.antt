@@ -19,9 +19,9 @@ use Rattle.rpm_words.specs.Ask.{AskParts}
 use Rattle.rpm_qfparse.specs.Tree.{Tree}
 use Rattle.rpm_effects.specs.declared.answer.Why.{Why}
 use Rattle.rpm_effects.specs.declared.answer.Why.TheVariants as why
-use Rattle.rpm_print.specs.declared.reading.Request.{Request}
-use Rattle.rpm_print.specs.declared.reading.Request.TheVariants as request
-use Rattle.rpm_print.specs.Asked.{always_keyed, request_of}
+use Rattle.rpm_command.specs.declared.reading.Request.{Request}
+use Rattle.rpm_command.specs.declared.reading.Request.TheVariants as request
+use Rattle.rpm_command.specs.Asked.{always_keyed, request_of}
 use Rattle.rpm_effects.specs.Steps.{Bearer}
 use Rattle.rpm_report.specs.Requirements.{IsOfSome}
 use Rattle.rpm_select.specs.Frame.{HasKeptRows as HasIndexRows}
@@ -31,7 +31,9 @@ use Rattle.rpm_print.specs.Reads.{reach_sum, reached_by}
 use Rattle.rpm_query.specs.Reach.{IsOfChains}
 use Rattle.rpm_effects.specs.Progress.{Outputs, Through}
 use Rattle.rpm_effects.specs.Classes.{is_refusal}
-use Rattle.rpm_tool.specs.Requests.{StoreAnswerBy, LogAnswer, RequestProgress, reaches_of, asked_reaches, blocks_cost}
+use Rattle.rpm_commit.specs.Changing.{FilesAnswer}
+use Rattle.rpm_tool.specs.Requests.{RequestProgress, asked_reaches, blocks_cost}
+use Rattle.rpm_tool.specs.inner.Words.{CauseBy, reaches_of}
 pub use Rattle.rpm_commit.specs.Lawful.{AreLawfulDatabases, HasClosedIndex, HasUsableIndex, IsLawfulDatabase}
 pub use Rattle.rpm_commit.specs.Lawful.{IsLawfulAndSame, KeepsPackages}
 pub use Rattle.rpm_group.specs.Crashes.{KeepsLog}
@@ -64,68 +66,37 @@ pub record IsUsableDatabase (files : Files) : Type 0 where
 
 -- ---- the endings
 
--- an index that has to be made may be too large, and then nothing is done
-abbrev pub UnlessFull : (Why → Outputs → Outputs → Type 0) → Why → Outputs → Outputs → Type 0
-UnlessFull Do (why.IndexFull needed) old new = Through [] old new
-UnlessFull Do others old new = Do others old new
-
--- a question is answered on a usable database; of any that can be read no damage is told
-abbrev pub OnUsable : Type 0 → StoreAnswerBy → StoreAnswerBy
-OnUsable Usable Do s given old new = (is_refusal given ≡ false) × (Usable → UnlessFull (Do s) given old new)
-
--- what is said where an index must be made, or needn't, that needs so many units
-abbrev pub FullByUnits : Bool → ℕ → Why → Type 0
-FullByUnits making needed (why.IndexFull said) = (making ≡ true) × (2 ^ 28 < needed) × (said ≡ needed)
-FullByUnits making needed why.DiskFault = Unit {0}
-FullByUnits making needed why.NoMemory = Unit {0}
-FullByUnits making needed (why.BadLog unit) = Unit {0}
-FullByUnits making needed others = making ≡ true → needed ≤ 2 ^ 28
-
--- the index is full exactly where it must be made and needs too many units; a malformed log, a fault of the disk or
--- want of memory may come before
-abbrev pub IndexFullIs : Files → Why → Type 0
-IndexFullIs files given =
-    FullByUnits (must_rebuild files.idx (store files.pkg)) (units_needed files.pkg (store files.pkg)) given
-
--- what a malformed index is told with: of a query the fault of the chain of a key that is asked, of a report that of
--- some key
-abbrev pub CauseBy : Request → Chosen → List (List ℕ) → Units → Why → Type 0
-CauseBy request.Print chosen texts idx given = IsOfChains chosen texts idx given
-CauseBy others chosen texts idx given = IsOfSome idx given
-
--- a question by key blames the index only for a chain that it asks
-abbrev pub CauseIs : List (List ℕ) → AskParts → Units → Why → Type 0
-CauseIs words a idx given = CauseBy (request_of a.mode) a.chosen (map (word_at words) a.arguments) idx given
-
--- a malformed index is told only where it is current
-abbrev pub BadIs : List (List ℕ) → AskParts → Files → Why → Type 0
-BadIs words a files (why.BadIndex unit) = (s : Store) × (store files.pkg ≡ Ok s)
-    × (is_current_at s.generation files.idx ≡ true)
-    × CauseIs words a files.idx (why.BadIndex unit)
-BadIs words a files others = Unit {0}
-
 -- an index that must be made has room
 abbrev pub HasRoom : Files → Type 0
 HasRoom files = must_rebuild files.idx (store files.pkg) ≡ true → units_needed files.pkg (store files.pkg) ≤ 2 ^ 28
 
+-- the index is full exactly where it must be made and needs too many units; a malformed log, a fault of the disk or
+-- want of memory may come before
+abbrev pub IndexFullIs : Files → Why → Type 0
+IndexFullIs files (why.IndexFull said) = (must_rebuild files.idx (store files.pkg) ≡ true)
+    × (2 ^ 28 < units_needed files.pkg (store files.pkg)) × (said ≡ units_needed files.pkg (store files.pkg))
+IndexFullIs files why.DiskFault = Unit {0}
+IndexFullIs files why.NoMemory = Unit {0}
+IndexFullIs files (why.BadLog unit) = Unit {0}
+IndexFullIs files others = HasRoom files
+
+-- a malformed index is told only where it is current: of a query with the fault of the chain of a key that it asks, of a
+-- report with that of some key
+abbrev pub BadIs : List (List ℕ) → AskParts → Files → Why → Type 0
+BadIs words a files (why.BadIndex unit) = (s : Store) × (store files.pkg ≡ Ok s)
+    × (is_current_at s.generation files.idx ≡ true) × (elim (request_of a.mode) [
+      | request.Print ↦ IsOfChains a.chosen (map (word_at words) a.arguments) files.idx (why.BadIndex unit)
+      | others ↦ IsOfSome files.idx (why.BadIndex unit)
+    ])
+BadIs words a files others = Unit {0}
+
 -- ---- what is read
 
--- a database has its index unless it is blank
-abbrev pub has_index : Store → Bool
-has_index s = not (s.pages == 0)
-
--- a question reads this much up to a step: the pages, the packages where the index must be made of them, and those
--- that the arguments go over
-abbrev pub keyed_to : Files → List (List ℕ) → AskParts → Store → Bearer → ℕ
-keyed_to files words a s for = opening_cost files.pkg + rebuilding_cost files.idx (store files.pkg)
-    + reached_by (asked_reaches (has_index s) files.pkg s words a) (without_index s) for
-
 -- a question reads this much in all: the pages, the packages where the index must be made of them, and those that the
--- arguments go over
+-- arguments go over, with an index unless the database is blank
 abbrev pub keyed_cost : Files → List (List ℕ) → AskParts → ℕ
-keyed_cost files words a =
-    opening_cost files.pkg + rebuilding_cost files.idx (store files.pkg)
-    + blocks_cost has_index files.pkg (store files.pkg) words a
+keyed_cost files words a = opening_cost files.pkg + rebuilding_cost files.idx (store files.pkg)
+    + blocks_cost (λ s. not (s.pages == 0)) files.pkg (store files.pkg) words a
 
 -- ---- what is answered
 
@@ -142,15 +113,15 @@ pub record OpenedAnswer {D : Type 0} (d : disk.Ghosts D) (request : Request) (tr
   pub bad : IsTrue d.tells → CauseBy request a.chosen (map (word_at words) a.arguments) (d.files old).idx given
   pub looks : OnlyReadsIndexed d (always_keyed request || is_indexed db) old new
 
--- a question by key is answered on these files, of whose Packages.db so many bytes were read before and then
-abbrev pub KeyedProgress : Tree → List (List ℕ) → AskParts → Files → ℕ → ℕ → StoreAnswerBy
-KeyedProgress tree words a r before now s given old new =
-    RequestProgress (request_of a.mode) tree r.pkg s words a
-    (λ for. now ≤ before + keyed_to r words a s for) given old new
-
--- what a question by key prints, reports and reads
+-- what a question by key prints, reports and reads, where so many bytes of Packages.db were read before and then: of any
+-- database that can be read no damage is told, and a usable one is asked, unless an index that has to be made is too
+-- large; up to a step it reads as above
 abbrev pub KeyedAnswer : Tree → List (List ℕ) → AskParts → Files → Why → Outputs → Outputs → ℕ → ℕ → Type 0
 KeyedAnswer tree words a files given old new before now =
     let r = reopened files in
-    LogAnswer (OnUsable (IsUsable r.pkg r.idx) (KeyedProgress tree words a r before now)) (store r.pkg)
-    (log_state files.log) given old new
+    FilesAnswer (λ s. (is_refusal given ≡ false) × (IsUsable r.pkg r.idx → elim given [
+      | why.IndexFull needed ↦ Through [] old new
+      | others ↦ RequestProgress (request_of a.mode) tree r.pkg s words a (λ for. now ≤ before
+          + (opening_cost r.pkg + rebuilding_cost r.idx (store r.pkg)
+          + reached_by (asked_reaches (not (s.pages == 0)) r.pkg s words a) (without_index s) for)) others old new
+    ])) files given old new

@@ -1,9 +1,9 @@
--- The theorem, on one page. `run` (src/command.rt) keeps all that stands here, and asks nothing of its caller: each
--- record is a clause of it, or a field of one, and each field is one promise. Of what files hold it speaks only for
--- disks and shelves that tell it (`tells`), as those in memory do. A database is usable where `Packages.db` isn't
--- damaged, the log isn't malformed, and the index has the rows of the packages if it is of their generation. A usable
--- database is lawful where its index isn't of a later generation. A blank database needs no index.
+-- The theorem. `run` keeps all that stands here, and asks nothing. Each record is a clause of it or a field of one,
+-- each field a promise. What files hold it says of disks and shelves that tell it (`tells`). A database is usable where
+-- `Packages.db` isn't damaged, the log isn't malformed, and the index, if it is of their generation, has the rows of
+-- the packages. A usable database is lawful where its index isn't of a later generation. A blank one needs no index.
 use Rattle.std.specs.Prelude.{◌≡◌, ◌≢◌, ℕ, ◌+◌, ◌≤◌, List, [], true, false, IsTrue, Some, None, Err, Ok}
+use Rattle.std.specs.Option.{option_map_or}
 use Rattle.std.specs.Ordering.{nat_cmp}
 use Rattle.std.specs.FinMap.{FinMap}
 use Rattle.rpm_outside.specs.declared.disk.Disk as disk
@@ -20,19 +20,20 @@ use Rattle.rpm_qfparse.specs.declared.fault.FormatFault.{FormatFault}
 use Rattle.rpm_qfparse.specs.declared.fault.FormatKind.TheVariants as wrong
 use Rattle.rpm_effects.specs.declared.answer.Why.TheVariants as why
 use Rattle.rpm_effects.specs.Classes.{is_done, is_done_or_outside, is_foreign}
-use Rattle.rpm_print.specs.Answers.{ComesWhere}
-use Rattle.rpm_print.specs.Asked.{is_query, of_files, by_key, is_changing, asks_change, asks_format, asks}
+use Rattle.rpm_command.specs.Answers.{ComesWhere}
+use Rattle.rpm_command.specs.Asked.{is_query, of_files, by_key, asks_change, asks_format, asks}
+use Rattle.rpm_command.specs.Tasks.{TaskParts, asked_task}
 use Rattle.rpm_outside.specs.Frame.{images, CrashLeaves}
 use Rattle.rpm_print.specs.Frame.{pkg_read, OnlyReadsPackages}
-use Rattle.rpm_print.specs.Texts.{text_course, text_of}
-use Rattle.rpm_query.specs.PackageFiles.{with_after, query_files}
+use Rattle.rpm_command.specs.Texts.{text_of}
+use Rattle.rpm_print.specs.Texts.{text_course}
+use Rattle.rpm_query.specs.PackageFiles.{query_files}
 use Rattle.rpm_query.specs.Queries.{picked_packages, argument_part, query, query_of, AreOfEach, AreQuestions}
 use Rattle.rpm_commit.specs.Changing.{EmptyBy}
-use Rattle.rpm_commit.specs.Tasks.{asked_task, asked_course, reads_shelf, needs_none}
+use Rattle.rpm_commit.specs.Tasks.{needs_none, reads_shelf, task_course}
 use Rattle.rpm_tool.specs.Requests.{Anywhere, CommandProgress, Package, PlainAnswer, query_cost, reopened}
 use Rattle.rpm_tool.specs.Requests.{steps_above, Tree, Why}
-use Rattle.rpm_tool.specs.Keyed.{AreLawfulDatabases, Chosen, IsUsableDatabase, KeepsLog}
-use Rattle.rpm_tool.specs.Keyed.{KeepsPackages, IsLawfulAndSame}
+use Rattle.rpm_tool.specs.Keyed.{AreLawfulDatabases, Chosen, IsUsableDatabase, KeepsLog, KeepsPackages, IsLawfulAndSame}
 use Rattle.rpm_tool.specs.Keyed.{IsAtRest, HasClosedIndex, KeyedAnswer, IndexFullIs, BadIs, HasRoom, keyed_cost}
 -- One run: its words, how it ended, what it found and left of the disk, what out and err had taken before and after.
 pub use Rattle.rpm_commit.specs.Run.{Run, ran}
@@ -102,18 +103,18 @@ pub record AnswersKeyed {D : Type 0} {d : disk.Ghosts D} (r : Run d) (a : AskPar
 module _ {D S : Type 0} {d : disk.Ghosts D} {s : shelf.Ghosts S} where
   -- What is done for a command that was read, by its kind.
   pub record AnswersCommand (r : Run d) (at : Setting s) (a : AskParts) (tree : Tree) : Type 0 where
-    pub plain : of_files a ≡ false → by_key a ≡ false → is_changing a ≡ false → text_of a.mode ≡ None
+    pub plain : of_files a ≡ false → by_key a ≡ false → asked_task r.words a ≡ None → text_of a.mode ≡ None
         → IsTrue d.tells → AnswersPlain r a tree
     pub files : of_files a ≡ true → AnswersOfFiles r at a tree
     pub text : (text : List ℕ) → text_of a.mode ≡ Some text → AnswersText r at text
     pub keyed : by_key a ≡ true → IsTrue d.tells → AnswersKeyed r a tree
-    pub changes : is_changing a ≡ true → IsTrue d.tells
-        → (reads_shelf (asked_task r.words a) ≡ true → IsTrue s.tells)
-        → AnswersChange r (asked_task r.words a) (asked_course (s.paths at.shelf) at.moment r.words a)
-    pub empty : is_changing a ≡ true → IsTrue d.tells
-        → EmptyBy (needs_none (asked_task r.words a)) (reopened (d.files r.found)) r.why
-    pub looks : by_key a ≡ false → is_changing a ≡ false → OnlyReadsPackages d r.found r.left
-    pub shelf_unread : of_files a ≡ false → reads_shelf (asked_task r.words a) ≡ false → at.shelf_left ≡ at.shelf
+    pub changes : (task : TaskParts) → asked_task r.words a ≡ Some task → IsTrue d.tells
+        → (reads_shelf task ≡ true → IsTrue s.tells)
+        → AnswersChange r task (task_course (s.paths at.shelf) at.moment task)
+    pub empty : (task : TaskParts) → asked_task r.words a ≡ Some task → IsTrue d.tells
+        → EmptyBy (needs_none task) (reopened (d.files r.found)) r.why
+    pub looks : by_key a ≡ false → asked_task r.words a ≡ None → OnlyReadsPackages d r.found r.left
+    pub shelf_unread : of_files a ≡ false → option_map_or reads_shelf (asked_task r.words a) false ≡ false → at.shelf_left ≡ at.shelf
 
   -- What `run` answers for all words.
   pub record Answers (r : Run d) (at : Setting s) : Type 0 where
@@ -136,9 +137,9 @@ pub record Causes {D S O E : Type 0} (d : disk.Ghosts D) (s : shelf.Ghosts S) (o
 pub record Laws (words : List (List ℕ)) : Type 0 where
   -- `--after` leaves out the steps for packages up to its number, and no others; with package files none
   pub after : (tree : Tree) (packages : FinMap nat_cmp Package) (a : AskParts)
-      → (query tree packages words a).steps ≡ steps_above a.after (query tree packages words (with_after 0 a)).steps
+      → (query tree packages words a).steps ≡ steps_above a.after (query tree packages words (record a { after = 0 })).steps
   pub files_after : (tree : Tree) (paths : Paths) (n : ℕ) (a : AskParts)
-      → query_files tree paths words (with_after n a) ≡ query_files tree paths words a
+      → query_files tree paths words (record a { after = n }) ≡ query_files tree paths words a
   -- an argument's packages are those that it picks above `--after`, each once and rising
   pub numbers : (tree : Tree) (packages : FinMap nat_cmp Package) (chosen : Chosen) (after j : ℕ) (text : List ℕ)
       → AreOfEach after (picked_packages packages chosen text) (argument_part tree packages chosen after j text).steps

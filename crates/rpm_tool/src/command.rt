@@ -5,10 +5,11 @@ ghost use Rattle.rpm_tool.specs.Prelude.{Answers, AnswersWords, asks, Causes, cl
 
 use crate::keyed::answer_keyed;
 use crate::loaded::answer_loaded;
+use rpm_command::{Kind, read_command};
 use rpm_commit::{CommandEnding, change_asked};
 use rpm_effects::{Outcome, Why, status_of};
 use rpm_outside::{Buffered, Disk, File, Shelf, Sink};
-use rpm_print::{Kind, kind_of, print_text, put_closing, read_command};
+use rpm_print::{print_text, put_closing};
 use rpm_query::print_files;
 use rpm_words::Words;
 use std::alloc::Global;
@@ -31,14 +32,16 @@ fn command<D: Disk, S: Shelf, O: Sink + Drop, E: Sink + Drop>(
     ensures disk { DiskFault D.Disk (result.0.why ≡ Why.DiskFault) disk result.1 }
     ensures streams { Streams S.Shelf O.Sink E.Sink true (λ why. result.0.why ≡ why) (shelf.old, out.old, err.old) (shelf.new, out.new, err.new) }
 {
-    let (ask, format) = match read_command(alloc, words) {
-        Ok(read) => read,
+    let command = match read_command(alloc, words) {
+        Ok(command) => command,
         Err(why) => return (CommandEnding { why, changes: 0 }, disk),
     };
-    match kind_of(&ask) {
-        Kind::Change => change_asked(alloc, words, &ask, disk, shelf, out, err, now),
+    let ask = &command.ask;
+    let format = &command.format;
+    match &command.kind {
+        Kind::Change(task) => change_asked(alloc, task, disk, shelf, out, err, now),
         Kind::Files => {
-            let why = print_files(alloc, shelf, words, &ask, &format, out, err);
+            let why = print_files(alloc, shelf, words, ask, format, out, err);
             (CommandEnding { why, changes: 0 }, disk)
         }
         Kind::Text(text) => {
@@ -46,11 +49,11 @@ fn command<D: Disk, S: Shelf, O: Sink + Drop, E: Sink + Drop>(
             (CommandEnding { why, changes: 0 }, disk)
         }
         Kind::Keyed(request) => {
-            let (why, disk) = answer_keyed(alloc, disk, words, &ask, request, &format, out, err);
+            let (why, disk) = answer_keyed(alloc, disk, words, ask, *request, format, out, err);
             (CommandEnding { why, changes: 0 }, disk)
         }
         Kind::Plain(request) => {
-            let (why, disk) = answer_loaded(alloc, disk, words, &ask, request, &format, out, err);
+            let (why, disk) = answer_loaded(alloc, disk, words, ask, *request, format, out, err);
             (CommandEnding { why, changes: 0 }, disk)
         }
     }

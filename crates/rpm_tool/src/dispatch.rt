@@ -3,10 +3,10 @@
 ghost use Rattle.std.specs.Prelude.{◌≡◌, [], false, Err, IfErr};
 ghost use Rattle.rpm_tool.specs.Prelude.{request_of, DiskFault, OpenedAnswer, EndHands, is_foreign, is_of_opening, IsAskable, IsOfPrint, shown_outputs, why_of_report};
 
+use rpm_command::Request;
 use rpm_db::Db;
 use rpm_effects::{Halt, Why};
 use rpm_outside::{Buffered, Disk, File, Sink};
-use rpm_print::Request;
 use rpm_qfparse::Format;
 use rpm_query::{query_all, query_each};
 use rpm_report::{check_files, report, report_order, report_unmet};

@@ -5,11 +5,11 @@ ghost use Rattle.std.specs.Prelude.{◌≡◌, false, IsTrue};
 ghost use Rattle.rpm_tool.specs.Prelude.{AnswersKeyed, ran, request_of, DiskFault, EndHands, is_foreign, shown_outputs};
 
 use crate::dispatch::answer_opened;
+use rpm_command::Request;
 use rpm_db::Db;
 use rpm_effects::{Why, why_of_open, why_of_recover};
 use rpm_group::recover;
 use rpm_outside::{Buffered, Disk, File, Sink};
-use rpm_print::Request;
 use rpm_qfparse::Format;
 use rpm_words::{Ask, Words};
 use std::alloc::Global;

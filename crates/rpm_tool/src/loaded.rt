@@ -4,10 +4,10 @@ ghost use Rattle.std.specs.Prelude.{◌≡◌, ◌+◌, ◌≤◌, [], false, Is
 ghost use Rattle.rpm_tool.specs.Prelude.{always_keyed, request_of, DiskFault, EndHands, is_foreign, OnlyReadsPackages, pkg_read, PlainAnswer, query_cost, reopened, shown_outputs};
 
 use crate::unindexed::answer_unindexed;
+use rpm_command::Request;
 use rpm_effects::{Why, unless_starved, why_of_load};
 use rpm_group::Overlay;
 use rpm_outside::{Buffered, Disk, File, Sink};
-use rpm_print::Request;
 use rpm_qfparse::Format;
 use rpm_words::{Ask, Words};
 use std::alloc::Global;

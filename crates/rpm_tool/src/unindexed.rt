@@ -4,10 +4,10 @@ ghost use Rattle.std.specs.Prelude.{◌≡◌, ◌+◌, ◌≤◌, ℕ, [], fals
 ghost use Rattle.rpm_tool.specs.Prelude.{always_keyed, request_of, PlainProgress, DiskFault, EndHands, is_foreign, OnlyReads, StoreAnswer, Pkg, pkg_read, query_cost, shown_outputs, store};
 
 use crate::dispatch::answer_opened;
+use rpm_command::Request;
 use rpm_db::{Db, DbOpenFault};
 use rpm_effects::Why;
 use rpm_outside::{Buffered, Disk, File, Sink};
-use rpm_print::Request;
 use rpm_qfparse::Format;
 use rpm_words::{Ask, Words};
 use std::alloc::Global;

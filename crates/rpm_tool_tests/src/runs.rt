@@ -2,8 +2,8 @@
 //! contract.
 
 use crate::fixtures::package;
+use rpm_command::{Kind, kind_of};
 use rpm_outside::{MemDisk, MemShelf, MemSink};
-use rpm_print::{Kind, kind_of};
 use rpm_real::{Purpose, RealDisk, RealShelf};
 use rpm_tool::{Outcome, Why, run};
 use rpm_words::{Words, read};
@@ -65,10 +65,10 @@ pub fn run_on(alloc: Global, line: &str, disk: MemDisk) -> Result<Ran, AllocErro
 // What a line is to do with the database.
 fn purpose_of(alloc: Global, words: &Words) -> Purpose {
     match read(alloc, words) {
-        Ok(ask) => match kind_of(&ask) {
-            Kind::Change => Purpose::Change,
-            Kind::Keyed(_) => Purpose::Keyed,
-            Kind::Files | Kind::Plain(_) | Kind::Text(_) => Purpose::Plain,
+        Ok(ask) => match kind_of(alloc, words, &ask) {
+            Ok(Kind::Change(_)) => Purpose::Change,
+            Ok(Kind::Keyed(_)) => Purpose::Keyed,
+            Ok(Kind::Files | Kind::Plain(_) | Kind::Text(_)) | Err(_) => Purpose::Plain,
         },
         Err(_) => Purpose::Plain,
     }

@@ -31,7 +31,6 @@ releases x y None (Some s) = refl
 releases x y None None = refl
 
 meets_turned : (x y : ℕ) (a b : EvrParts) (o : Ordering) → ranges_meet (ordering_reverse o) x a y b ≡ ranges_meet o y b x a
-unfolding ranges_meet
 meets_turned x y a b Less = or_turned (has_less x) (has_greater y)
 meets_turned x y a b Equal = λ i. senses x y i || releases x y a.release b.release i
 meets_turned x y a b Greater = or_turned (has_greater x) (has_less y)

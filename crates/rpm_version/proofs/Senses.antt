@@ -37,7 +37,6 @@ unfolding share_sense
 shared f flags = rw (less_kept flags, greater_kept flags, equal_kept flags) refl
 
 meets_kept : (o : Ordering) (f : ℕ) (a : EvrParts) (flags : ℕ) (b : EvrParts) → ranges_meet o f a (bit_and flags 14) b ≡ ranges_meet o f a flags b
-unfolding ranges_meet
 meets_kept Less f a flags b = rw less_kept
 meets_kept Greater f a flags b = rw greater_kept
 meets_kept Equal f a flags b = λ i. shared f flags i || released f flags a.release b.release i

@@ -1,15 +1,16 @@
 -- The words of proofs, from one place.
-pub use Rattle.rpm_version.specs.Capability.{is_space, is_word}
 unfoldable pub use Rattle.rpm_version.specs.Capability.{words}
-pub use Rattle.rpm_version.specs.Evr.{epoch_number, evr, EvrParts, is_dash, IsLastDash, unless_empty}
-unfoldable pub use Rattle.rpm_version.specs.Evr.{evr_order, release_of, release_order, version_of}
+pub use Rattle.rpm_version.specs.Evr.{evr, EvrParts, is_dash, IsLastDash}
+unfoldable pub use Rattle.rpm_version.specs.Evr.{evr_order, release_order}
 pub use Rattle.rpm_version.specs.Order.{IsUpTo, rank}
 unfoldable pub use Rattle.rpm_version.specs.Order.{segment_order, version_order}
 pub use Rattle.rpm_version.specs.Piece.{segment_at, segments_behind}
-pub use Rattle.rpm_version.specs.Range.{has_equal, has_greater, has_less}
-unfoldable pub use Rattle.rpm_version.specs.Range.{equal_but_release, is_open, ranges_meet, overlaps, share_sense}
+unfoldable pub use Rattle.rpm_version.specs.Range.{equal_but_release, is_open, overlaps, share_sense}
 pub use Rattle.rpm_version.specs.Segment.{Caret, Digits, End, Letters, Segment, Tilde}
 unfoldable pub use Rattle.rpm_version.specs.Segment.{runs, runs_on, segment_of, segments}
+pub use Rattle.rpm_version.specs.inner.Cuts.{is_space, unless_empty}
+unfoldable pub use Rattle.rpm_version.specs.inner.Cuts.{release_of, version_of}
+pub use Rattle.rpm_version.specs.laws.Senses.{epoch_number, has_equal, has_greater, has_less, ranges_meet}
 pub use Rattle.rpm_version.specs.declared.segment.Piece.{Piece}
 pub use Rattle.std.specs.Char.{digit_value, is_ascii_alphabetic, is_ascii_digit}
 pub use Rattle.std.specs.Cmp.{IsTotalOrder, nat_cmp_is}

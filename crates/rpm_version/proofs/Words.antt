@@ -1,10 +1,14 @@
 -- The first word of a text.
 use Rattle.std.proofs.Common.{◌≡◌, ℕ, ◌<◌, Bool, true, false, not, List, [], ◌∷◌, take, drop, length, filter, refl, sym, ap, subst, ◌==◌, ◌∙◌, arith}
-use Rattle.rpm_version.proofs.Vocabulary.{is_space, is_word, onto_first, position_or_len, prefix_len, slice_split, take_while, words}
+use Rattle.rpm_version.proofs.Vocabulary.{is_space, onto_first, position_or_len, prefix_len, slice_split, take_while, words}
 use Rattle.std.proofs.lemmas.Bool.{ne_eqb, eqb-true, eqb-false}
 use Rattle.std.proofs.lemmas.List.{nil_from_length}
 use Rattle.std.proofs.lemmas.List.Splits.{slice_split-cons_yes, slice_split-cons_no}
 use Rattle.rpm_version.proofs.Fronts.{taken-yes, taken-no, left-yes, left-no}
+
+-- a part is a word when it isn't empty
+abbrev is_word : List ℕ → Bool
+is_word part = not (length part == 0)
 
 abbrev no_blank : ℕ → Bool
 no_blank b = not (is_space b)

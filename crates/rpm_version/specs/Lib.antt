@@ -5,3 +5,5 @@ pub mod Piece
 pub mod Prelude
 pub mod Range
 pub mod Segment
+pub mod inner
+pub mod laws

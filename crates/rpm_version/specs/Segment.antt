@@ -7,17 +7,14 @@ use Rattle.std.specs.Str.Parse.{digits_value}
 
 -- a tilde, the end of the text, a caret, letters as they stand, or digits as the number that they write
 pub data Segment : Type 0 where
-  Tilde : Segment
-  End : Segment
-  Caret : Segment
+  Tilde End Caret : Segment
   Letters : List ℕ → Segment
   Digits : ℕ → Segment
 
 -- whether a byte and the one after it belong to one run: two digits, or two letters
 unfoldable pub runs_on : ℕ → List ℕ → Bool
 runs_on b [] = false
-runs_on b (c ∷ rest) =
-    (is_ascii_digit b && is_ascii_digit c) || (is_ascii_alphabetic b && is_ascii_alphabetic c)
+runs_on b (c ∷ rest) = (is_ascii_digit b && is_ascii_digit c) || (is_ascii_alphabetic b && is_ascii_alphabetic c)
 
 -- the text cut into its longest runs of digits and of letters, and each other byte alone
 unfoldable pub runs : List ℕ → List (List ℕ)

@@ -25,7 +25,7 @@ impl<'a> Model for Evr<'a> {
 }
 
 /// The epoch of a text, and what stands after it.
-#[tactic(auto, unfolding(crate::specs::Evr::has_epoch, crate::specs::Evr::epoch_of, crate::specs::Evr::behind_epoch))]
+#[tactic(auto, unfolding(crate::specs::inner::Cuts::has_epoch, crate::specs::inner::Cuts::epoch_of, crate::specs::inner::Cuts::behind_epoch))]
 fn split_epoch(text: &[u8]) -> (Option<&[u8]>, &[u8])
     ensures epoch { option_copied result.0 ≡ epoch_of text.now }
     ensures behind { result.1.now ≡ behind_epoch text.now }
@@ -79,7 +79,7 @@ impl<'a> Evr<'a> {
     /// The digits that a text begins with, perhaps none, are its epoch where a colon follows them.
     /// What stands before the last dash after it is the version, and what follows that dash is the
     /// release. Each text has these parts: nothing is refused. Goes over the text twice at most.
-    #[tactic(auto, unfolding(crate::specs::Evr::evr))]
+    #[tactic(auto, unfolding(crate::specs::Evr::evr, crate::specs::inner::Cuts::has_epoch, crate::specs::inner::Cuts::epoch_of, crate::specs::inner::Cuts::behind_epoch, crate::specs::inner::Cuts::version_of, crate::specs::inner::Cuts::release_of))]
     pub fn read(text: &'a [u8]) -> Self
         ensures { result ≡ evr text.now }
     {

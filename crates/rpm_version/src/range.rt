@@ -56,7 +56,6 @@ fn equal_but_release(a_flags: u32, a: Option<&[u8]>, b_flags: u32, b: Option<&[u
 }
 
 /// Whether two ranges meet, neither of which holds every version.
-#[tactic(auto, unfolding(crate::specs::Range::ranges_meet))]
 fn meet(a_flags: u32, a: &Evr<'_>, b_flags: u32, b: &Evr<'_>) -> bool
     ensures { result ≡ ranges_meet (evr_order a.now b.now) a_flags a.now b_flags b.now }
 {

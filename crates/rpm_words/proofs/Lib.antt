@@ -4,6 +4,7 @@ pub mod Fits
 pub mod Folders
 pub mod Memory
 pub mod Numbers
+pub mod Pieces
 pub mod Seens
 pub mod Sound
 pub mod Spelled

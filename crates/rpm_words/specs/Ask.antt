@@ -11,11 +11,9 @@ use Rattle.rpm_words.specs.declared.switch.Command.TheVariants.{Order, Checkfile
 use Rattle.rpm_words.specs.declared.switch.Chosen.{Chosen}
 use Rattle.rpm_words.specs.declared.switch.Chosen.TheVariants.{Label}
 use Rattle.rpm_words.specs.declared.token.Token.{Token}
-use Rattle.rpm_words.specs.declared.token.Said.{Said}
 use Rattle.rpm_words.specs.declared.token.Said.TheVariants.{Argument}
 use Rattle.rpm_words.specs.declared.seen.Seen.{Seen}
 use Rattle.rpm_words.specs.declared.words.Span.{Span}
-use Rattle.rpm_words.specs.declared.seen.Printed.{Printed}
 use Rattle.rpm_words.specs.declared.seen.Printed.TheVariants.{Files, By}
 use Rattle.rpm_words.specs.declared.fault.WordsFault.{WordsFault}
 use Rattle.rpm_words.specs.declared.fault.WordsKind.TheVariants.{NoMode}
@@ -40,14 +38,9 @@ pub record AskParts : Type 0 where
   pub format : Option Span
   pub arguments : List ℕ
 
--- the place of a word that is an argument
-abbrev pub argument_said : ℕ → Said → Option ℕ
-argument_said word Argument = Some word
-argument_said word others = None
-
 -- the word that is an argument
 abbrev pub argument_in : Token → Option ℕ
-argument_in token = argument_said token.word token.said
+argument_in token = elim (token.said) [ Argument ↦ Some token.word | others ↦ None ]
 
 -- the places of the arguments, in order
 unfoldable pub arguments : List Token → List ℕ
@@ -71,49 +64,27 @@ mode_of Checkfiles n = mode.Checkfiles
 mode_of Help n = mode.Help
 mode_of Version n = mode.Version
 
--- files are to be listed
-abbrev pub lists_files : Option Printed → Bool
-lists_files (Some Files) = true
-lists_files others = false
-
--- the format by which is printed, if one is given
-abbrev pub format_printed : Option Printed → Option Span
-format_printed (Some (By span)) = Some span
-format_printed others = None
-
--- the parts put together
-abbrev pub ask_parts : Mode → Chosen → ℕ → Bool → Option Printed → List ℕ → AskParts
-ask_parts mode chosen after noindex printed arguments = record {
-  mode = mode;
-  chosen = chosen;
-  after = after;
-  noindex = noindex;
-  lists = lists_files printed;
-  format = format_printed printed;
+-- what is meant where no rule is broken; an exercise has a number then
+abbrev pub meant_parts : Seen → List ℕ → AskParts
+meant_parts seen arguments = record {
+  mode = mode_of (unwrap_or seen.command Query) (unwrap_or seen.exercise 1);
+  chosen = unwrap_or seen.chosen Label;
+  after = unwrap_or seen.after 0;
+  noindex = seen.noindex;
+  lists = elim (seen.printed) [ Some Files ↦ true | others ↦ false ];
+  format = elim (seen.printed) [ Some (By span) ↦ Some span | others ↦ None ];
   arguments = arguments;
 }
 
--- what is meant where no rule is broken; an exercise has a number then
-abbrev pub meant_parts : Seen → List ℕ → AskParts
-meant_parts seen arguments =
-    ask_parts (mode_of (unwrap_or seen.command Query) (unwrap_or seen.exercise 1)) (unwrap_or seen.chosen Label)
-    (unwrap_or seen.after 0) seen.noindex seen.printed arguments
-
--- the first fault, or what is asked for where there is none
-abbrev pub fault_or : Option WordsFault → AskParts → Result AskParts WordsFault
-fault_or (Some f) a = Err f
-fault_or None a = Ok a
-
--- what words ask for that were read so
-abbrev pub asked_with : List (List ℕ) → List Token → Seen → List ℕ → Result AskParts WordsFault
-asked_with words tokens seen arguments =
-    fault_or (first_broken words tokens seen arguments) (meant_parts seen arguments)
-
--- what words ask a program for
+-- what words ask a program for: the first rule that they break, or else what they mean
 unfoldable pub asked_by : Program → List (List ℕ) → Result AskParts WordsFault
 asked_by program words =
-    asked_with words (said_tokens program words) (seen words (said_tokens program words))
-    (arguments (said_tokens program words))
+    let tokens = said_tokens program words in
+    let told = seen words tokens in
+    elim (first_broken words tokens told (arguments tokens)) [
+      | Some f ↦ Err f
+      | None ↦ Ok (meant_parts told (arguments tokens))
+    ]
 
 -- the command, or the first rule that is broken
 unfoldable pub ask : List (List ℕ) → Result AskParts WordsFault

@@ -10,10 +10,8 @@ use Rattle.rpm_words.specs.declared.switch.Command.TheVariants.{Query, Verify, E
 use Rattle.rpm_words.specs.declared.switch.Chosen.{Chosen}
 use Rattle.rpm_words.specs.declared.switch.Chosen.TheVariants.{Label, All}
 use Rattle.rpm_words.specs.declared.switch.Switch.{Switch}
-use Rattle.rpm_words.specs.declared.switch.Switch.TheVariants.{Mode, Choose, Lists, Format, After, Noindex, Nofiles}
-use Rattle.rpm_words.specs.declared.switch.Switch.TheVariants.{Folder}
+use Rattle.rpm_words.specs.declared.switch.Switch.TheVariants.{Mode, Choose, After, Nofiles, Folder}
 use Rattle.rpm_words.specs.declared.token.Token.{Token}
-use Rattle.rpm_words.specs.declared.token.Said.{Said}
 use Rattle.rpm_words.specs.declared.token.Said.TheVariants.{Refused, Sets, Gives}
 use Rattle.rpm_words.specs.declared.seen.Seen.{Seen}
 use Rattle.rpm_words.specs.declared.fault.WordsFault.{WordsFault}
@@ -26,29 +24,22 @@ use Rattle.rpm_words.specs.declared.takes.ArgumentRule.{ArgumentRule}
 use Rattle.rpm_words.specs.Words.{word_at}
 use Rattle.rpm_words.specs.Number.{number, exercise_number}
 use Rattle.rpm_words.specs.Purpose.{takes_value}
-use Rattle.rpm_words.specs.Command.{command_word, is_other}
+use Rattle.rpm_words.specs.Command.{is_other}
 use Rattle.rpm_words.specs.Takes.{takes, fewest, most, expected_form, checked_arguments}
-use Rattle.rpm_words.specs.Fault.{fault, earliest, first_told}
-
--- a value that must be a number is none
-abbrev pub bad_number_said : List ℕ → Said → Bool
-bad_number_said text (Gives After from) = is_none (number (drop from text))
-bad_number_said text (Gives (Mode Exercise) from) = is_none (exercise_number (drop from text))
-bad_number_said text others = false
+use Rattle.rpm_words.specs.Fault.{fault, earliest}
 
 -- a value that has to be a number, and is none
 abbrev pub is_bad_number : List (List ℕ) → Token → Bool
-is_bad_number words token = bad_number_said (word_at words token.word) token.said
-
--- an option that isn't known
-abbrev pub is_refused : Said → Bool
-is_refused Refused = true
-is_refused others = false
+is_bad_number words token = elim (token.said) [
+  | Gives After from ↦ is_none (number (drop from (word_at words token.word)))
+  | Gives (Mode Exercise) from ↦ is_none (exercise_number (drop from (word_at words token.word)))
+  | others ↦ false
+]
 
 -- what is wrong with a token, where the first mode and the first selection are these
 abbrev pub token_fault : List (List ℕ) → Option Command → Option Chosen → Token → Option WordsFault
 token_fault words command chosen token =
-    if is_refused token.said then Some (fault UnknownOption token.word)
+    if elim (token.said) [ Refused ↦ true | others ↦ false ] then Some (fault UnknownOption token.word)
     else if is_other command chosen token then Some (fault TwoModes token.word)
     else if is_bad_number words token then Some (fault BadNumber token.word)
     else None
@@ -57,74 +48,41 @@ token_fault words command chosen token =
 unfoldable pub early_word_fault : List (List ℕ) → Option Command → Option Chosen → List Token → Option WordsFault
 early_word_fault words command chosen tokens = earliest (filter_map (token_fault words command chosen) tokens)
 
--- an option whose value is the next word
-abbrev pub awaiting_said : Said → Bool
-awaiting_said (Sets switch) = takes_value switch
-awaiting_said others = false
-
--- a token is awaiting its value
+-- a token is an option whose value is the next word
 abbrev pub is_awaiting : Token → Bool
-is_awaiting token = awaiting_said token.said
-
--- the last token is an option, and its value does not follow
-abbrev pub no_value : List (List ℕ) → Option Token → Option WordsFault
-no_value words last =
-    if option_map_or is_awaiting last false then Some (fault MissingArgument (length words)) else None
-
--- no word says what is to be done
-abbrev pub no_mode : List (List ℕ) → Option Command → Option WordsFault
-no_mode words command = if is_none command then Some (fault NoMode (length words)) else None
-
--- the command is a query
-abbrev pub is_query_command : Command → Bool
-is_query_command Query = true
-is_query_command others = false
-
--- the command is a verification
-abbrev pub is_verify : Command → Bool
-is_verify Verify = true
-is_verify others = false
+is_awaiting token = elim (token.said) [ Sets switch ↦ takes_value switch | others ↦ false ]
 
 -- an option may not stand in this mode: most stand in queries alone, `-a` and `--nofiles` where packages are verified
 abbrev pub is_misplaced : Switch → Command → Bool
 is_misplaced (Mode other) command = false
-is_misplaced (Choose All) command = not (is_query_command command || is_verify command)
-is_misplaced (Choose others) command = not (is_query_command command)
-is_misplaced Lists command = not (is_query_command command)
-is_misplaced Format command = not (is_query_command command)
-is_misplaced After command = not (is_query_command command)
-is_misplaced Noindex command = not (is_query_command command)
-is_misplaced Nofiles command = not (is_verify command)
 is_misplaced Folder command = false
+is_misplaced Nofiles Verify = false
+is_misplaced Nofiles others = true
+is_misplaced (Choose All) Verify = false
+is_misplaced others Query = false
+is_misplaced others command = true
 
--- an option that doesn't belong to a command
-abbrev pub misplaced_said : Command → ℕ → Said → Option WordsFault
-misplaced_said command word (Sets switch) = if is_misplaced switch command then Some (fault Misplaced word) else None
-misplaced_said command word others = None
-
--- a token has this misplaced option
+-- a token is an option that doesn't belong to this command
 abbrev pub misplaced_in : Command → Token → Option WordsFault
-misplaced_in command token = misplaced_said command token.word token.said
+misplaced_in command token = elim (token.said) [
+  | Sets switch ↦ if is_misplaced switch command then Some (fault Misplaced token.word) else None
+  | others ↦ None
+]
 
 -- the first option that may not stand in the mode
 unfoldable pub first_misplaced : Command → List Token → Option WordsFault
-first_misplaced command tokens = command_word (filter_map (misplaced_in command) tokens)
-
--- all packages are chosen
-abbrev pub is_all : Option Chosen → Bool
-is_all (Some All) = true
-is_all others = false
+first_misplaced command tokens = slice_get (filter_map (misplaced_in command) tokens) 0
 
 -- packages are verified with `-a` and `--nofiles`
 abbrev pub lacks_option : Command → Seen → Bool
-lacks_option Verify seen = not (is_all seen.chosen && seen.nofiles)
+lacks_option Verify seen = not (elim (seen.chosen) [ Some All ↦ true | others ↦ false ] && seen.nofiles)
 lacks_option others seen = false
 
 -- arguments are missing
 abbrev pub too_few : List (List ℕ) → Command → Seen → ArgumentRule → List ℕ → Option WordsFault
 too_few words command seen taken arguments =
-    if lacks_option command seen || nat_lt (length arguments) (fewest taken) then Some
-    (fault MissingArgument (length words)) else None
+    if lacks_option command seen || nat_lt (length arguments) (fewest taken)
+    then Some (fault MissingArgument (length words)) else None
 
 -- the first argument after the most that there may be
 abbrev pub too_many : ArgumentRule → List ℕ → Option WordsFault
@@ -140,19 +98,20 @@ argument_fault words Capability word =
 
 -- the first argument that is at fault
 unfoldable pub bad_argument : List (List ℕ) → Expected → List ℕ → Option WordsFault
-bad_argument words kind arguments = command_word (filter_map (argument_fault words kind) arguments)
+bad_argument words kind arguments = slice_get (filter_map (argument_fault words kind) arguments) 0
 
--- the first rule that the words of a command break
+-- the first rule that the words of a command break: the second one is that the last option has its value, the third one
+-- that there is a mode
 abbrev pub broken_by : List (List ℕ) → List Token → Seen → List ℕ → Command → ArgumentRule → Option WordsFault
-broken_by words tokens seen arguments command taken = first_told (
+broken_by words tokens seen arguments command taken = slice_get (filter_map (λ o. o) (
     early_word_fault words seen.command seen.chosen tokens
-    ∷ no_value words seen.last
-    ∷ no_mode words seen.command
+    ∷ (if option_map_or is_awaiting seen.last false then Some (fault MissingArgument (length words)) else None)
+    ∷ (if is_none seen.command then Some (fault NoMode (length words)) else None)
     ∷ first_misplaced command tokens
     ∷ too_few words command seen taken arguments
     ∷ too_many taken arguments
     ∷ bad_argument words (expected_form taken) (checked_arguments taken arguments)
-    ∷ [])
+    ∷ [])) 0
 
 -- the first of these rules that is broken
 unfoldable pub first_broken : List (List ℕ) → List Token → Seen → List ℕ → Option WordsFault

@@ -23,9 +23,3 @@ is_before f g = nat_lt f.word g.word || (f.word == g.word && nat_lt (fault_rank 
 abbrev pub earliest : List WordsFault → Option WordsFault
 earliest [] = None
 earliest (f ∷ others) = Some (best_of is_before f others)
-
--- the first of the rules that is broken
-abbrev pub first_told : List (Option WordsFault) → Option WordsFault
-first_told [] = None
-first_told (Some f ∷ others) = Some f
-first_told (None ∷ others) = first_told others

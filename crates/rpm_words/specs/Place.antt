@@ -7,35 +7,27 @@ use Rattle.rpm_words.specs.declared.switch.Program.{Program}
 use Rattle.rpm_words.specs.declared.switch.Program.TheVariants.{Rpm, Rpmdb}
 use Rattle.rpm_words.specs.declared.switch.Switch.TheVariants.{Folder}
 use Rattle.rpm_words.specs.declared.token.Token.{Token}
-use Rattle.rpm_words.specs.declared.token.Said.{Said}
 use Rattle.rpm_words.specs.declared.token.Said.TheVariants.{Sets, Gives}
 use Rattle.rpm_words.specs.Words.{word_at}
 use Rattle.rpm_words.specs.Token.{said_tokens}
 
--- the program that a word names
-abbrev pub program_named : List ℕ → Option Program
-program_named text =
-    if bytes_eq text (codes "rpm") then Some Rpm
-    else if bytes_eq text (codes "rpmdb") then Some Rpmdb
-    else None
-
 -- the program that the first word names
 unfoldable pub program_of : List (List ℕ) → Option Program
-program_of words = option_map_or program_named (slice_get words 0) None
+program_of words = option_map_or (λ text.
+    if bytes_eq text (codes "rpm") then Some Rpm else if bytes_eq text (codes "rpmdb") then Some Rpmdb else None)
+    (slice_get words 0) None
 
 -- the folder where none is given
 abbrev pub own_place : List ℕ
 own_place = codes "/var/lib/rpm"
 
 -- the folder that a token names: `--dbpath` its value, and rpm's own place without one
-abbrev pub folder_said : List ℕ → Said → Option (List ℕ)
-folder_said text (Sets Folder) = Some own_place
-folder_said text (Gives Folder from) = Some (drop from text)
-folder_said text others = None
-
--- the folder that a token gives
 abbrev pub folder_in : List (List ℕ) → Token → Option (List ℕ)
-folder_in words token = folder_said (word_at words token.word) token.said
+folder_in words token = elim (token.said) [
+  | Sets Folder ↦ Some own_place
+  | Gives Folder from ↦ Some (drop from (word_at words token.word))
+  | others ↦ None
+]
 
 -- the folder that is named last
 unfoldable pub folder : Program → List (List ℕ) → List ℕ

@@ -26,22 +26,12 @@ takes_value others = false
 abbrev pub is_equals : ℕ → Bool
 is_equals b = b == 61
 
--- whether a value is written into the word
-abbrev pub has_equals : List ℕ → Bool
-has_equals text = nat_lt (position_or_len is_equals text) (length text)
-
--- an option with its value after the place of the sign
-abbrev pub inline : ℕ → Switch → Purpose
-inline place switch = if takes_value switch then Inline switch (place + 1) else Unknown
-
--- an option with no value in its word
-abbrev pub lone : Switch → Purpose
-lone switch = if takes_value switch then Awaits switch else Whole switch
-
--- what a word is for that spells an option
+-- what a word is for that spells an option: with its value after the sign, or with none in its word
 abbrev pub spelled_purpose : List ℕ → Switch → Purpose
 spelled_purpose text switch =
-    if has_equals text then inline (position_or_len is_equals text) switch else lone switch
+    if nat_lt (position_or_len is_equals text) (length text)
+    then (if takes_value switch then Inline switch (position_or_len is_equals text + 1) else Unknown)
+    else (if takes_value switch then Awaits switch else Whole switch)
 
 -- a word that begins with two dashes
 unfoldable pub long_purpose : Program → List ℕ → Purpose

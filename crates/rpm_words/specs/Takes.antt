@@ -11,20 +11,15 @@ use Rattle.rpm_words.specs.declared.takes.ArgumentRule.TheVariants.{Nothing, Any
 
 -- what a query takes, by what it picks packages by
 abbrev pub query_takes : Chosen → ArgumentRule
-query_takes chosen.Label = Several Text
 query_takes chosen.All = Any Text
-query_takes chosen.Path = Several Text
-query_takes chosen.Group = Several Text
-query_takes chosen.Package = Several Text
+query_takes chosen.Number = Several Number
+query_takes chosen.Tid = Several Number
 query_takes chosen.Provides = Several Capability
 query_takes chosen.Requires = Several Capability
 query_takes chosen.Conflicts = Several Capability
 query_takes chosen.Obsoletes = Several Capability
-query_takes chosen.Trigger = Several Text
-query_takes chosen.Number = Several Number
-query_takes chosen.Directory = Several Text
-query_takes chosen.Tid = Several Number
 query_takes chosen.Recommends = Several Capability
+query_takes others = Several Text
 
 -- what a command takes
 abbrev pub takes : Command → Chosen → ArgumentRule
@@ -32,31 +27,19 @@ takes command.Query by = query_takes by
 takes command.Addpkg by = Several Text
 takes command.Replacepkg by = NumberAndText
 takes command.Erasepkg by = Several Number
-takes command.Verify by = Nothing
-takes command.Initdb by = Nothing
-takes command.Rebuilddb by = Nothing
-takes command.Verifydb by = Nothing
-takes command.Exportdb by = Nothing
-takes command.Importdb by = Nothing
-takes command.Exercise by = Nothing
-takes command.Order by = Nothing
-takes command.Checkfiles by = Nothing
-takes command.Help by = Nothing
-takes command.Version by = Nothing
+takes others by = Nothing
 
 -- how many there have to be
 abbrev pub fewest : ArgumentRule → ℕ
-fewest Nothing = 0
-fewest (Any kind) = 0
-fewest (Several kind) = 1
 fewest NumberAndText = 2
+fewest (Several kind) = 1
+fewest others = 0
 
 -- how many there may be
 abbrev pub most : ArgumentRule → Option ℕ
 most Nothing = Some 0
-most (Any kind) = None
-most (Several kind) = None
 most NumberAndText = Some 2
+most others = None
 
 -- what they have to be
 abbrev pub expected_form : ArgumentRule → Expected
@@ -67,7 +50,5 @@ expected_form NumberAndText = Number
 
 -- a rule checks these of the arguments: the first alone where it wants a number and a text
 abbrev pub checked_arguments : ArgumentRule → List ℕ → List ℕ
-checked_arguments Nothing arguments = arguments
-checked_arguments (Any kind) arguments = arguments
-checked_arguments (Several kind) arguments = arguments
 checked_arguments NumberAndText arguments = take 1 arguments
+checked_arguments others arguments = arguments

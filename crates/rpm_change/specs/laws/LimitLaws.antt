@@ -16,12 +16,12 @@ use Rattle.rpm_db.specs.laws.RoomLaws.{next_spare}
 use Rattle.rpm_effects.specs.declared.tally.Tally.{Tally}
 use Rattle.rpm_effects.specs.declared.tally.Halt.{Halt}
 use Rattle.rpm_effects.specs.declared.tally.Halt.TheVariants as halt
-use Rattle.rpm_change.specs.Limits.{is_spent, is_large, limit_of_change, limit_of_changes}
+use Rattle.rpm_change.specs.Limits.{is_spent, limit_of_change, limit_of_changes}
 use Rattle.rpm_db.specs.Reaches.{units_needed_after}
 use Rattle.rpm_change.specs.Limits.{limit_of_command, next_stores, is_limit, MeetsLimit, LimitsTurn}
 use Rattle.rpm_effects.specs.Steps.{apply_all}
 use Rattle.rpm_change.specs.laws.ReachLaws.{reached_more}
-use Rattle.rpm_change.specs.laws.Single.{none_made}
+use Rattle.rpm_change.specs.laws.Single.{is_large, none_made}
 use Rattle.rpm_change.specs.laws.Stores.{stores_behind}
 
 -- ---- room in memory is nothing to a limit

@@ -9,7 +9,8 @@ use Rattle.rpm_pkgdb.specs.Reaches.{store_end, ReachesTo}
 use Rattle.rpm_pkgdb.specs.Store.{Store}
 use Rattle.rpm_pkgdb.specs.Written.{with_spare}
 use Rattle.rpm_db.specs.Changes.{Change, apply}
-use Rattle.rpm_db.specs.Reaches.{Reaches, ReachesMade, added_units, units_needed_after}
+use Rattle.rpm_db.specs.Reaches.{Reaches, ReachesMade, units_needed_after}
+use Rattle.rpm_db.specs.laws.Parts.{added_units}
 use Rattle.rpm_db.specs.Room.{RoomBecomes, next_store}
 use Rattle.rpm_db.specs.Rows.{rows}
 use Rattle.rpm_db.specs.State.{State}

@@ -20,12 +20,16 @@ use Rattle.rpm_effects.specs.declared.tally.Tally.{Tally}
 use Rattle.rpm_effects.specs.declared.tally.Halt.{Halt}
 use Rattle.rpm_effects.specs.declared.tally.Halt.TheVariants as halt
 use Rattle.rpm_effects.specs.Progress.{halt_of}
-use Rattle.rpm_change.specs.Limits.{is_spent, is_large, limit_of_change, next_stores, is_limit}
+use Rattle.rpm_change.specs.Limits.{is_spent, limit_of_change, next_stores, is_limit}
 use Rattle.rpm_db.specs.Reaches.{units_needed_after}
 use Rattle.rpm_change.specs.Limits.{LimitsTurn}
 use Rattle.rpm_change.specs.Singles.{IsOfChange, IsRefusing, IsSpent}
 use Rattle.rpm_change.specs.laws.ReachLaws.{reached_none, reached_one}
 use Rattle.rpm_db.specs.Database.{store_of}
+
+-- the index that a change leaves is too large
+abbrev pub is_large : State → Change → Bool
+is_large s change = nat_lt (2 ^ 28) (units_needed_after s change)
 
 -- a number is left for a change that needs a new one
 abbrev pub HasNumber : State → Change → Type 0

@@ -4,7 +4,7 @@ use Rattle.rpm_tags.specs.Wanted.{Need}
 use Rattle.rpm_db.specs.State.{Package}
 use Rattle.rpm_graph.specs.declared.graph.Edge.{Edge}
 use Rattle.rpm_select.specs.Reach.{is_in}
-use Rattle.rpm_check.specs.Edges.{is_good, needs_of}
+use Rattle.rpm_check.specs.inner.Parts.{is_good, needs_of}
 
 -- nothing where no package has the number
 abbrev pub needs_at : Option Package → List Need

@@ -3,7 +3,7 @@ use Rattle.std.specs.Prelude.{ℕ, ◌+◌, ◌*◌, length, Bool, true, false, 
 use Rattle.std.specs.declared.cmp.Ordering.{Ordering}
 use Rattle.std.specs.Ordering.{nat_cmp, ordering_then}
 use Rattle.rpm_version.specs.Evr.{evr, evr_order}
-use Rattle.rpm_version.specs.Range.{has_equal, has_greater, has_less}
+use Rattle.rpm_version.specs.laws.Senses.{has_equal, has_greater, has_less}
 use Rattle.rpm_check.specs.declared.offers.Offer.{Offer}
 
 -- a test as a digit

@@ -16,7 +16,7 @@ use Rattle.rpm_check.specs.declared.looking.Sources.{Sources}
 use Rattle.rpm_check.specs.declared.names.Names.{Names}
 use Rattle.rpm_check.specs.declared.offers.Offer.{Offer}
 use Rattle.rpm_check.specs.Unmet.{package_meets}
-use Rattle.rpm_select.specs.Providing.{provided_ranges}
+use Rattle.rpm_select.specs.laws.Parts.{provided_ranges}
 use Rattle.rpm_check.specs.inner.Kinds.{offer_order}
 
 -- ---- one package

@@ -3,7 +3,7 @@ use Rattle.std.specs.Prelude.{◌≡◌, ℕ, List, [], ◌∷◌, Bool, Option,
 use Rattle.rpm_tags.specs.Wanted.{Need}
 use Rattle.rpm_db.specs.State.{Package}
 use Rattle.rpm_check.specs.declared.list.Unmet.{Unmet}
-use Rattle.rpm_check.specs.Unmet.{unmet_of}
+use Rattle.rpm_check.specs.inner.Parts.{unmet_of}
 
 -- nothing where no package has the number
 abbrev pub unmet_at : (Need → Bool) → ℕ → Option Package → List Unmet

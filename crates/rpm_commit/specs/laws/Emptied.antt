@@ -10,7 +10,8 @@ use Rattle.rpm_exercise.specs.declared.running.ExerciseFault.{ExerciseFault}
 use Rattle.rpm_exercise.specs.declared.running.ExerciseFault.TheVariants.{Halted, NotEmpty}
 use Rattle.rpm_outside.specs.Files.{Files, Units}
 use Rattle.rpm_pkgdb.specs.declared.slot.Damage.{Damage}
-use Rattle.rpm_commit.specs.Changing.{EmptyBy, EmptyIs, EmptyOn}
+use Rattle.rpm_commit.specs.Changing.{EmptyBy, EmptyIs}
+use Rattle.rpm_commit.specs.laws.Words.{EmptyOn}
 use Rattle.rpm_commit.specs.Working.{done_why, TransactionCount, OpensBy, OpensIn, why_of, why_of_exercise}
 use Rattle.rpm_commit.specs.Stages.{FoundStore}
 use Rattle.rpm_db.specs.Database.{store_of}

@@ -9,14 +9,15 @@ use Rattle.rpm_effects.specs.declared.tally.Halt.{Halt}
 use Rattle.rpm_db.specs.Changes.{Change}
 use Rattle.rpm_outside.specs.Files.{Files, Units}
 use Rattle.rpm_pkgdb.specs.declared.slot.Damage.{Damage}
-use Rattle.rpm_commit.specs.Limits.{command_limit, LimitsOn, MeetsFirst}
+use Rattle.rpm_commit.specs.Limits.{MeetsFirst}
+use Rattle.rpm_commit.specs.laws.Words.{command_limit, LimitsOn}
 use Rattle.rpm_commit.specs.Reaches.{begun_store}
 use Rattle.rpm_commit.specs.Working.{done_why, OpensBy, OpensIn}
 use Rattle.rpm_change.specs.laws.LimitLaws.{makes_large, makes_small, never_bad_made, stops_unasked}
 use Rattle.rpm_db.specs.Openings.{must_rebuild}
 use Rattle.rpm_db.specs.Rows.{rows}
 use Rattle.rpm_db.specs.State.{State, state}
-use Rattle.rpm_commit.specs.Changing.{is_rebuilt}
+use Rattle.rpm_commit.specs.laws.Words.{is_rebuilt}
 use Rattle.rpm_effects.specs.declared.tally.Tally.{Tally}
 use Rattle.rpm_hindex.specs.Sizes.{units_for}
 use Rattle.rpm_pkgdb.specs.Store.{Store, store}

@@ -9,7 +9,8 @@ use Rattle.rpm_outside.specs.Files.{Files, Units}
 use Rattle.rpm_outside.specs.Frame.{images, CrashLeaves}
 use Rattle.rpm_outside.specs.Logs.{LogState}
 use Rattle.rpm_outside.specs.laws.Moments.{leaves_weaker}
-use Rattle.rpm_commit.specs.Changing.{AllRowsFit, RowsFit, IsLawfulAndSameOr}
+use Rattle.rpm_commit.specs.Changing.{AllRowsFit, RowsFit}
+use Rattle.rpm_commit.specs.laws.Words.{IsLawfulAndSameOr}
 use Rattle.rpm_commit.specs.Lawful.{AreLawfulDatabases, KeepsPackages, IsLawfulAndSame}
 use Rattle.rpm_db.specs.Openings.{units_needed}
 use Rattle.rpm_db.specs.State.{State}

@@ -7,10 +7,12 @@ use Rattle.rpm_outside.specs.Files.{Files}
 use Rattle.rpm_outside.specs.Frame.{images, CrashLeaves}
 use Rattle.rpm_outside.specs.Logs.{Closed, log_state, LogState, Malformed, reopened}
 use Rattle.rpm_pkgdb.specs.declared.slot.Damage.{Damage}
-use Rattle.rpm_commit.specs.Changing.{after, BadBy, ChangeProgress, ChangeProgressOnLog, ChangeProgressOn, HasChanges}
-use Rattle.rpm_commit.specs.Changing.{IsAllOrNone}
+use Rattle.rpm_commit.specs.Changing.{after, BadBy, ChangeProgress, HasChanges}
+use Rattle.rpm_commit.specs.laws.Words.{ChangeProgressOnLog, ChangeProgressOn}
+use Rattle.rpm_commit.specs.laws.Words.{IsAllOrNone}
 use Rattle.rpm_effects.specs.Classes.{is_done, is_of_lawful}
-use Rattle.rpm_commit.specs.Tasks.{changes_index, is_anew, TaskParts}
+use Rattle.rpm_command.specs.Tasks.{TaskParts}
+use Rattle.rpm_commit.specs.Tasks.{changes_index, is_anew}
 use Rattle.rpm_group.specs.Loads.{IsSound, LoadSays}
 use Rattle.rpm_group.specs.declared.load.LoadFault.{LoadFault}
 use Rattle.rpm_commit.specs.Lawful.{IsLawfulDatabase}
@@ -119,7 +121,7 @@ module _ {D : Type 0} (d : disk.Ghosts D) (words : List (List ℕ)) (task : Task
       images = unmade_images w;
     };
     limits = limits;
-    fault = λ faulted. inl (record { same = stands; crashes = recovering_still d old new run; images = run });
+    fault = λ faulted. inl (stands, recovering_still d old new run, run);
     log = log;
   }
 

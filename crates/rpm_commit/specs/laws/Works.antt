@@ -10,14 +10,14 @@ use Rattle.rpm_outside.specs.Files.{Files, Units}
 use Rattle.rpm_pkgdb.specs.Blobs.{blobs}
 use Rattle.rpm_pkgdb.specs.Store.{in_file, Store, store}
 use Rattle.rpm_pkgdb.specs.declared.slot.Damage.{Damage}
-use Rattle.rpm_commit.specs.Limits.{command_limit}
+use Rattle.rpm_commit.specs.laws.Words.{command_limit}
 use Rattle.rpm_commit.specs.Reaches.{begun_store}
 use Rattle.rpm_commit.specs.Stages.{FoundStore}
 use Rattle.rpm_db.specs.Database.{store_of}
 use Rattle.rpm_db.specs.Openings.{must_rebuild, units_needed}
 use Rattle.rpm_db.specs.Rows.{rows}
 use Rattle.rpm_db.specs.State.{packages, State, state}
-use Rattle.rpm_commit.specs.Changing.{is_rebuilt}
+use Rattle.rpm_commit.specs.laws.Words.{is_rebuilt}
 use Rattle.rpm_commit.specs.Working.{OpensBy, UncommittedProgress, WorkBy, WorkOnStore}
 use Rattle.rpm_effects.specs.declared.tally.Tally.{Tally}
 use Rattle.rpm_hindex.specs.Sizes.{units_for}

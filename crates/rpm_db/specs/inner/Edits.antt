@@ -13,7 +13,8 @@ use Rattle.rpm_pkgdb.specs.Quiet.{BlobMap}
 use Rattle.rpm_pkgdb.specs.Reaches.{ReachesTo}
 use Rattle.rpm_pkgdb.specs.Slots.{slot_with}
 use Rattle.rpm_pkgdb.specs.Store.{Store}
-use Rattle.rpm_pkgdb.specs.Written.{ErasesTo, PutsTo, without_number, field_after, next_field, with_plan, with_spare}
+use Rattle.rpm_pkgdb.specs.Written.{ErasesTo, PutsTo, without_number, next_field, with_plan, with_spare}
+use Rattle.rpm_pkgdb.specs.laws.Parts.{field_after}
 use Rattle.rpm_db.specs.Database.{without_index}
 use Rattle.rpm_db.specs.Verdicts.{verdict}
 use Rattle.rpm_db.specs.declared.writing.Edit.{Edit}

@@ -29,7 +29,8 @@ use Rattle.rpm_db.specs.Rows.{header_rows}
 use Rattle.rpm_db.specs.inner.Edits.{CanEdit}
 use Rattle.rpm_db.specs.Gathering.{with_rows}
 use Rattle.rpm_db.specs.State.{packages}
-use Rattle.rpm_db.specs.inner.Writes.{change_for, number_for, old_rows, put_map}
+use Rattle.rpm_db.specs.inner.Writes.{number_for, old_rows, put_map}
+use Rattle.rpm_db.specs.Changes.{change_at}
 
 -- the number that has to be there, None for a new one
 abbrev pub number_asked : PackageChange → Option ℕ
@@ -38,7 +39,7 @@ number_asked (request.Erase n) = Some n
 
 -- the change that it is
 abbrev pub change_asked : PackageChange → Change
-change_asked (request.Put n view) = change_for n view.now.blob
+change_asked (request.Put n view) = change_at n view.now.blob
 change_asked (request.Erase n) = Erase n
 
 -- the bytes that are put

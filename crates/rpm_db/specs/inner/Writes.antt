@@ -8,6 +8,7 @@ use Rattle.rpm_pkgdb.specs.Blobs.{blobs}
 use Rattle.rpm_pkgdb.specs.Costs.{cost}
 use Rattle.rpm_pkgdb.specs.Store.{Store, next_number}
 use Rattle.rpm_pkgdb.specs.Quiet.{Represents, BlobMap}
+use Rattle.rpm_pkgdb.specs.Written.{with_generation}
 use Rattle.rpm_hindex.specs.declared.plan.Work.{Work}
 use Rattle.rpm_hindex.specs.Images.{IsSealed}
 use Rattle.rpm_hindex.specs.Index.{records}
@@ -15,7 +16,6 @@ use Rattle.rpm_hindex.specs.Plans.{file_after, buckets_after}
 use Rattle.rpm_hindex.specs.Rows.{Row, SameRows}
 use Rattle.rpm_hindex.specs.State.{seal_unit}
 use Rattle.rpm_hindex.specs.Whole.{IsWellFormed}
-use Rattle.rpm_db.specs.Changes.{Change, Add, Put}
 use Rattle.rpm_db.specs.Rows.{rows_at}
 use Rattle.rpm_db.specs.State.{State, Package, package_of}
 
@@ -85,7 +85,6 @@ field_for (Some n) value = value.field
 abbrev pub put_map : Units → Store → Option ℕ → List ℕ → BlobMap
 put_map file value n blob = finite.insert (blobs file value) (number_for n value) (Some blob)
 
--- the change that a header makes under a new number, or one that is there
-abbrev pub change_for : Option ℕ → List ℕ → Change
-change_for None bytes = Add bytes
-change_for (Some n) bytes = Put n bytes
+-- A store with the same slots under the next generation.
+abbrev pub raised_store : Store → Store
+raised_store value = with_generation (value.generation + 1) value

@@ -12,7 +12,8 @@ use Rattle.rpm_pkgdb.specs.Words.{word}
 use Rattle.rpm_pkgdb.specs.Slots.{slot_of, slots_in, slot_with, has_number}
 use Rattle.rpm_pkgdb.specs.Damages.{damage_at, head_reason, own_reason, shared_reason, slot_fault, slot_units}
 use Rattle.rpm_pkgdb.specs.Damages.{table_fault}
-use Rattle.rpm_pkgdb.specs.Store.{Store, blank_store, is_blank, made_store, made_or_damaged, store, unless}
+use Rattle.rpm_pkgdb.specs.Store.{Store, blank_store, is_blank, store}
+use Rattle.rpm_pkgdb.specs.laws.Parts.{made_store, made_or_damaged, unless}
 use Rattle.rpm_pkgdb.specs.laws.Runs.{run, table_is_run}
 use Rattle.rpm_db.specs.Database.{Database, Keeps, holds}
 

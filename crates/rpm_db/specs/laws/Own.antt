@@ -8,7 +8,8 @@ use Rattle.std.proofs.lemmas.Bool.Decides.{nat_tests}
 use Rattle.std.proofs.lemmas.List.{length-take-le, drop-take, take_all}
 use Rattle.rpm_header.specs.declared.form.HeaderFault.{HeaderFault}
 use Rattle.rpm_header.specs.Bytes.{number_at}
-use Rattle.rpm_header.specs.Header.{Header, header, header_of, unless, max_entries, max_data}
+use Rattle.rpm_header.specs.Header.{Header, header, header_of, max_entries, max_data}
+use Rattle.rpm_header.specs.laws.Words.{unless}
 
 passed : (o : Option HeaderFault) (x h : Header) → unless o x ≡ Ok h → x ≡ h
 passed None x h is = cc

@@ -7,7 +7,7 @@ use Rattle.std.specs.Option.{option_map}
 use Rattle.rpm_outside.specs.Files.{Units}
 use Rattle.rpm_pkgdb.specs.declared.added_page.Move.{Move}
 use Rattle.rpm_pkgdb.specs.declared.slot.Damage.{Damage}
-use Rattle.rpm_pkgdb.specs.Growing.{pages_after}
+use Rattle.rpm_pkgdb.specs.laws.Parts.{pages_after}
 use Rattle.rpm_pkgdb.specs.Placing.{Placement, placement, put_spare, with_placed}
 use Rattle.rpm_pkgdb.specs.Store.{Store}
 use Rattle.rpm_pkgdb.specs.Written.{without_number, with_spare}
@@ -15,7 +15,8 @@ use Rattle.rpm_db.specs.Changes.{Change, Add, Put, Erase}
 use Rattle.rpm_db.specs.Database.{Database, IsPaged, generation_of, is_blank_database, store_of}
 use Rattle.rpm_db.specs.Lawful.{is_current_at}
 use Rattle.rpm_db.specs.Openings.{must_rebuild}
-use Rattle.rpm_db.specs.Room.{next_store, raised_store}
+use Rattle.rpm_db.specs.Room.{next_store}
+use Rattle.rpm_db.specs.inner.Writes.{raised_store}
 
 -- room in memory stays as it is
 pub next_spare : (change : Change) (spare : ℕ) (value : Store) → next_store change (with_spare spare value)

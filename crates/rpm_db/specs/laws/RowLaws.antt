@@ -20,7 +20,8 @@ use Rattle.rpm_tags.specs.Keys.{keys}
 use Rattle.rpm_hindex.specs.Rows.{Row, times, same_row}
 use Rattle.rpm_hindex.specs.Plans.{HasChanged}
 use Rattle.rpm_db.specs.State.{Package, Good, Bad}
-use Rattle.rpm_db.specs.Rows.{kinds, key_row, kind_rows, header_rows, rows_read, package_rows, rows_at, rows_in, rows}
+use Rattle.rpm_db.specs.Rows.{kinds, header_rows, package_rows, rows_at, rows}
+use Rattle.rpm_db.specs.laws.Parts.{key_row, kind_rows, rows_read, rows_in}
 use Rattle.rpm_db.specs.laws.Above.{both_true, none_below}
 
 pub times-append : (r : Row) (xs ys : List Row) → times r (xs ++ ys) ≡ times r xs + times r ys

@@ -12,12 +12,15 @@ use Rattle.std.proofs.lemmas.Cmp.{nat_cmp_total}
 use Rattle.rpm_header.specs.Header.{Header, header}
 use Rattle.rpm_outside.specs.Files.{Units}
 use Rattle.rpm_pkgdb.specs.declared.slot.Slot.{Slot}
-use Rattle.rpm_pkgdb.specs.Blobs.{blobs, entry_of_slot}
+use Rattle.rpm_pkgdb.specs.Blobs.{blobs}
+use Rattle.rpm_pkgdb.specs.laws.Parts.{entry_of_slot}
 use Rattle.rpm_pkgdb.specs.Quiet.{BlobMap}
-use Rattle.rpm_pkgdb.specs.Slots.{is_used, greatest_number, slot_with}
+use Rattle.rpm_pkgdb.specs.Slots.{is_used, slot_with}
+use Rattle.rpm_pkgdb.specs.laws.Parts.{greatest_number}
 use Rattle.rpm_pkgdb.specs.Store.{Store, next_number}
 use Rattle.rpm_db.specs.Changes.{greatest_in, next}
-use Rattle.rpm_db.specs.State.{Package, Good, read_as, package_of, packages, state}
+use Rattle.rpm_db.specs.State.{Package, Good, package_of, packages, state}
+use Rattle.rpm_db.specs.laws.Parts.{read_as}
 use Rattle.rpm_db.specs.laws.PackageLaws.{find-map, get-packages}
 use Rattle.rpm_db.specs.inner.Writes.{packages_of, state_with, state_of}
 

@@ -1,16 +1,20 @@
--- Of a part: what is read up to its steps, and a command that was stopped within it.
+-- Of a part: what it fails for, what is read up to its steps, and a command that was stopped within it.
 use Rattle.std.proofs.Common.{◌≡◌, ℕ, zero, suc, ◌+◌, ◌≤◌, Bool, List, [], ◌∷◌, drop, length, Result, Err, Some, sym}
-use Rattle.std.proofs.Common.{ap, ◌∙◌, add-one, arith}
+use Rattle.std.proofs.Common.{ap, not, ◌∙◌, add-one, arith}
 use Rattle.std.specs.Prelude.{slice_get}
 use Rattle.std.proofs.Math.Seq.{drop-nil}
 use Rattle.rpm_effects.specs.Progress.{Outputs}
-use Rattle.rpm_effects.specs.Steps.{Bearer, Course}
+use Rattle.rpm_effects.specs.Steps.{Bearer, Course, Step, is_out}
 use Rattle.rpm_effects.specs.declared.tally.Halt.{Halt}
 use Rattle.rpm_effects.specs.Answers.{PartIs, PartProgress, CommandProgress}
 use Rattle.rpm_effects.specs.Endings.{why_of_halt}
 use Rattle.rpm_effects.specs.Portions.{Portion}
 use Rattle.rpm_effects.specs.declared.tally.Halt.TheVariants as halt
 use Rattle.rpm_effects.specs.laws.Stopping.{reached_reads}
+
+-- whether a step goes to standard error
+abbrev pub is_bad : Step → Bool
+is_bad s = not (is_out s)
 
 pub part_reads : (part : Portion) (r : Result Bool Halt) (old new : Outputs) (P Q : Bearer → Type 0)
     → ((b : Bearer) → P b → Q b) → PartIs part r old new P

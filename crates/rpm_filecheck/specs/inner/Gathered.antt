@@ -7,7 +7,8 @@ use Rattle.std.specs.FinMap.{find, put}
 use Rattle.rpm_header.specs.declared.form.HeaderFault.{HeaderFault}
 use Rattle.rpm_header.specs.Header.{Header, header}
 use Rattle.rpm_db.specs.State.{Package, Good, Bad}
-use Rattle.rpm_filecheck.specs.Conflicts.{path_order, conflict_label}
+use Rattle.rpm_filecheck.specs.Conflicts.{conflict_label}
+use Rattle.rpm_filecheck.specs.inner.Parts.{path_order}
 use Rattle.rpm_filecheck.specs.Files.{OwnFile, files}
 use Rattle.rpm_filecheck.specs.Owners.{Owner}
 

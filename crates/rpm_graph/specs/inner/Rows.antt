@@ -2,8 +2,11 @@
 use Rattle.std.specs.Prelude.{◌≡◌, ℕ, ◌<◌, ◌++◌, ◌⊎◌, List, [], ◌∷◌, Contains, length, slice_index, slice_index_or}
 use Rattle.std.specs.Prelude.{slice_set}
 use Rattle.rpm_graph.specs.Networks.{Network, HasEdge, IsNumberRising, edge_at}
-use Rattle.rpm_graph.specs.Orders.{least}
 use Rattle.rpm_graph.specs.inner.Searches.{IsEdge, AreWithin}
+
+-- the least number of a class
+abbrev pub least : List ℕ → ℕ
+least class = slice_index class 0
 
 -- the rows with one more edge
 abbrev pub with_link : List (List ℕ) → ℕ → ℕ → List (List ℕ)

@@ -3,7 +3,15 @@ use Rattle.std.proofs.Common.{◌≡◌, refl, sym, subst}
 use Rattle.rpm_outside.specs.Files.{Files}
 use Rattle.rpm_outside.specs.Logs.{Closed, Open, Malformed, LogState, log_state}
 use Rattle.rpm_group.specs.Loads.{IsSound}
-use Rattle.rpm_group.specs.Crashes.{KeepsLog, KeepsLogOf, RecoverKeeps}
+use Rattle.rpm_group.specs.Crashes.{KeepsLog, RecoverKeeps}
+
+-- where a log was malformed the files stay as they were, and any other isn't malformed afterwards
+abbrev KeepsLogOf : LogState → Files → Files → Type 0
+KeepsLogOf state old new = elim state [
+  | Malformed unit ↦ new ≡ old
+  | Closed ↦ IsSound (log_state new.log)
+  | Open entries ↦ IsSound (log_state new.log)
+]
 
 sound_of : (s : LogState) (old new : Files) → KeepsLogOf s old new → IsSound s → IsSound (log_state new.log)
 sound_of (Malformed unit) old new keeps sound = absurd sound

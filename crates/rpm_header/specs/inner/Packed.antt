@@ -1,17 +1,26 @@
 -- What a builder keeps of its entries, so that they are read again from their bytes.
-use Rattle.std.specs.Prelude.{◌≡◌, ◌≢◌, ℕ, ◌^◌, ◌<◌, ◌≤◌, List, ◌++◌, length, None, false}
-use Rattle.std.specs.List.{AllByRecursion}
+use Rattle.std.specs.Prelude.{◌≡◌, ◌≢◌, ℕ, ◌^◌, ◌<◌, ◌≤◌, List, [], ◌++◌, length, None, false}
+use Rattle.std.specs.Int.{to_be_bytes}
+use Rattle.std.specs.List.{AllByRecursion, flat_map}
 use Rattle.rpm_header.specs.declared.form.Form.{Form}
 use Rattle.rpm_header.specs.declared.form.Form.TheVariants as form
 use Rattle.rpm_header.specs.Bytes.{texts}
-use Rattle.rpm_header.specs.Header.{Item, values, numbers_of, texts_of, element_fault, is_region_tag}
+use Rattle.rpm_header.specs.Header.{Item, Values, Nothing, Numbers, Texts, Bytes, values, width, numbers_of, texts_of}
+use Rattle.rpm_header.specs.Header.{element_fault, is_region_tag}
 use Rattle.rpm_header.specs.Build.{AllFit, IsText}
-use Rattle.rpm_header.specs.Laid.{bytes_by, entry_bytes, joined_texts}
+use Rattle.rpm_header.specs.Laid.{entry_bytes, joined_texts}
 
 -- the texts that these bytes hold are all that they hold
 pub record IsJoined (count : ℕ) (bytes : List ℕ) : Type 0 where
   pub stored : bytes ≡ joined_texts (texts count bytes)
   pub each : AllByRecursion IsText (texts count bytes)
+
+-- the bytes of elements
+abbrev pub bytes_by : Form → Values → List ℕ
+bytes_by f Nothing = []
+bytes_by f (Numbers ns) = flat_map (to_be_bytes (width f)) ns
+bytes_by f (Texts ts) = joined_texts ts
+bytes_by f (Bytes bs) = bs
 
 -- the elements that these bytes hold are all that they hold
 pub record IsPacked (f : Form) (count : ℕ) (bytes : List ℕ) : Type 0 where

@@ -18,7 +18,8 @@ use Rattle.rpm_outside.specs.Words.{word, unit_of_words}
 use Rattle.rpm_hindex.specs.Rows.{Row, times}
 use Rattle.rpm_hindex.specs.Sizes.{first_record, bucket_count, units_for, live_of}
 use Rattle.rpm_hindex.specs.inner.Drafts.{IsDraftOf}
-use Rattle.rpm_hindex.specs.Index.{Index, index_in, chain, is_link, row_at, bucket_unit, all_places, places_of, rows_of}
+use Rattle.rpm_hindex.specs.Index.{Index, index_in, chain, is_link, row_at, all_places, places_of, rows_of}
+use Rattle.rpm_hindex.specs.laws.Parts.{bucket_unit}
 use Rattle.rpm_hindex.specs.Index.{units_at}
 use Rattle.rpm_hindex.specs.Padding.{AddsPadded}
 use Rattle.rpm_hindex.specs.Whole.{IsWhole}

@@ -6,7 +6,7 @@ use Rattle.rpm_hindex.specs.declared.chain.Extent.{Extent}
 use Rattle.rpm_hindex.specs.declared.row_search.Found.{Found}
 use Rattle.rpm_hindex.specs.declared.spots.Spot.{Spot}
 use Rattle.rpm_hindex.specs.Rows.{Row}
-use Rattle.rpm_hindex.specs.Index.{bucket_unit}
+use Rattle.rpm_hindex.specs.laws.Parts.{bucket_unit}
 use Rattle.rpm_hindex.specs.inner.Records.{index_at}
 use Rattle.rpm_hindex.specs.inner.Spots.{IsRowFound, IsFoundFrom, IsLinked, IsPath, IsSoundSpot, IsWithin}
 

@@ -9,7 +9,8 @@ use Rattle.rpm_hindex.specs.declared.spots.Spot.{Spot}
 use Rattle.rpm_outside.specs.Words.{word}
 use Rattle.rpm_hindex.specs.Rows.{Row, same_row}
 use Rattle.rpm_hindex.specs.Sizes.{first_record}
-use Rattle.rpm_hindex.specs.Index.{Index, is_link, is_placed, is_sound, chain, next_at, length_at, units_at, row_at}
+use Rattle.rpm_hindex.specs.Index.{Index, is_link, is_sound, chain, length_at, units_at, row_at}
+use Rattle.rpm_hindex.specs.laws.Parts.{is_placed, next_at}
 
 -- what was read of a record's first unit is what stands there
 pub record IsRecordHead (unit : ℕ → List ℕ) (h : Head) : Type 0 where

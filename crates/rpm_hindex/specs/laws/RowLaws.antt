@@ -7,7 +7,8 @@ use Rattle.std.proofs.lemmas.Bool.{cases_Bool, cond-true, cond-false, and_from, 
 use Rattle.std.proofs.lemmas.List.Sums.{sum_by-append, sum_by-cons}
 use Rattle.std.proofs.lemmas.Slice.Eq.{bytes_eq-Decides}
 use Rattle.rpm_hindex.specs.Rows.{Row, times, same_row}
-use Rattle.rpm_hindex.specs.Sizes.{record_units, live_of}
+use Rattle.rpm_hindex.specs.Sizes.{live_of}
+use Rattle.rpm_hindex.specs.laws.Parts.{record_units}
 
 pub times-append : (r : Row) (xs ys : List Row) → times r (xs ++ ys) ≡ times r xs + times r ys
 unfolding times

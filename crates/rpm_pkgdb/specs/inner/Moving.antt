@@ -7,7 +7,8 @@ use Rattle.rpm_pkgdb.specs.declared.slot.Slot.{Slot}
 use Rattle.rpm_pkgdb.specs.Blobs.{blobs}
 use Rattle.rpm_pkgdb.specs.Frame.{pkg, Quiet}
 use Rattle.rpm_pkgdb.specs.Freed.{AreFreed, KeepsBlank}
-use Rattle.rpm_pkgdb.specs.Growing.{grown, moved_slot, next_end}
+use Rattle.rpm_pkgdb.specs.Growing.{grown, next_end}
+use Rattle.rpm_pkgdb.specs.laws.Parts.{moved_slot}
 use Rattle.rpm_pkgdb.specs.Quiet.{HasSlot, RepresentsStore, with_free}
 use Rattle.rpm_pkgdb.specs.Slots.{end_of}
 use Rattle.rpm_pkgdb.specs.Stays.{AllStay}

@@ -9,9 +9,11 @@ use Rattle.rpm_pkgdb.specs.Slots.{slot_at, free}
 use Rattle.rpm_pkgdb.specs.Store.{Store}
 use Rattle.rpm_pkgdb.specs.Stays.{SameOutside}
 use Rattle.rpm_pkgdb.specs.Framing.{framed}
-use Rattle.rpm_pkgdb.specs.Plans.{IsTarget, slot_for}
+use Rattle.rpm_pkgdb.specs.Plans.{IsTarget}
+use Rattle.rpm_pkgdb.specs.laws.Parts.{slot_for}
 use Rattle.rpm_pkgdb.specs.Quiet.{RepresentsStore}
-use Rattle.rpm_pkgdb.specs.Written.{next_field, with_next}
+use Rattle.rpm_pkgdb.specs.Written.{next_field}
+use Rattle.rpm_pkgdb.specs.laws.Parts.{with_next}
 use Rattle.rpm_pkgdb.specs.inner.Settings.{RepresentsSlot}
 
 -- the number field was written, or stays

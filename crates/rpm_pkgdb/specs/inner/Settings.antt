@@ -6,7 +6,7 @@ use Rattle.rpm_pkgdb.specs.Slots.{slot_at, is_used, end_of}
 use Rattle.rpm_pkgdb.specs.Store.{Store, KeepsStore}
 use Rattle.rpm_pkgdb.specs.inner.Clear.{HasUnits}
 use Rattle.rpm_pkgdb.specs.Plans.{FitsSlots}
-use Rattle.rpm_pkgdb.specs.Growing.{moved_slot}
+use Rattle.rpm_pkgdb.specs.laws.Parts.{moved_slot}
 use Rattle.rpm_pkgdb.specs.Quiet.{RepresentsStore, HasSlot}
 
 -- a slot may be set at a place: its number is no other slot's, and its blocks are free

@@ -13,7 +13,8 @@ use Rattle.rpm_outside.specs.Files.{Units}
 use Rattle.rpm_pkgdb.specs.declared.slot.Slot.{Slot}
 use Rattle.rpm_pkgdb.specs.Slots.{is_used, slot_with}
 use Rattle.rpm_pkgdb.specs.Store.{Store}
-use Rattle.rpm_pkgdb.specs.Blobs.{frame_of, frames, blob_in, entry_of_slot, blobs}
+use Rattle.rpm_pkgdb.specs.Blobs.{frame_of, frames, blob_in, blobs}
+use Rattle.rpm_pkgdb.specs.laws.Parts.{entry_of_slot}
 
 find-entries : (file : Units) (n : ℕ) (slots : List Slot)
     → finite.find nat_cmp n (map (entry_of_slot file) (filter is_used slots))

@@ -8,7 +8,7 @@ use Rattle.rpm_outside.specs.Files.{Units, unit_at}
 use Rattle.rpm_pkgdb.specs.declared.slot.Slot.{Slot}
 use Rattle.rpm_pkgdb.specs.declared.slot.Damage.{Damage}
 use Rattle.rpm_pkgdb.specs.Slots.{slot_of, slots_in}
-use Rattle.rpm_pkgdb.specs.Damages.{slot_fault, first, each_below, damage_of_slot, table_fault}
+use Rattle.rpm_pkgdb.specs.Damages.{slot_fault, first_fault, table_fault}
 
 -- numbers from one further on
 pub range_next : {X : Type 0} (f : ℕ → X) (a n : ℕ)
@@ -24,10 +24,19 @@ pub option_or-assoc : {X : Type 0} (a b c : Option X) → option_or (option_or a
 option_or-assoc None b c = refl
 option_or-assoc (Some x) b c = refl
 
+-- the first fault of a list
+abbrev pub first : {X : Type 0} → List (Option X) → Option X
+first [] = None
+first (None ∷ xs) = first xs
+first (Some x ∷ xs) = Some x
+
+-- a function's values for all numbers below a bound
+abbrev each_below : {X : Type 0} → ℕ → (ℕ → X) → List X
+each_below n f = map f (range_with_len 0 n)
+
 module _ (pages units : ℕ) where
   abbrev pub run : List Slot → Units → Option Damage
-  run earlier [] = None
-  run earlier (u ∷ us) = option_or (slot_fault pages units earlier u) (run (earlier ++ slot_of u ∷ []) us)
+  run earlier us = first_fault pages units earlier us
 
   pub run-append : (earlier : List Slot) (us vs : Units)
       → run earlier (us ++ vs) ≡ option_or (run earlier us) (run (earlier ++ slots_in us) vs)
@@ -69,5 +78,13 @@ module _ (pages units : ℕ) where
       (first_is_run (earlier ++ slot_of u ∷ []) us)
 
   pub table_is_run : (us : Units) → table_fault pages units us ≡ run [] us
+  unfolding table_fault
+  table_is_run us = refl
+
+  -- the fault of slot k of a table
+  unfoldable pub damage_of_slot : Units → ℕ → Option Damage
+  damage_of_slot slots k = slot_fault pages units (slots_in (take k slots)) (unit_at slots k)
+
+  pub table_is_first : (us : Units) → first (map (damage_of_slot us) (range_with_len 0 (length us))) ≡ table_fault pages units us
   unfolding table_fault damage_of_slot
-  table_is_run us = first_is_run [] us
+  table_is_first us = first_is_run [] us

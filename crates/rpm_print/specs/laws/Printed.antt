@@ -2,18 +2,22 @@
 use Rattle.std.proofs.Common.{◌≡◌, ℕ, Bool, true, false, not, ◌||◌, List, ◌∷◌, Result, Ok, Err, refl, sym, ap, ◌∙◌}
 use Rattle.std.specs.List.{list_any}
 use Rattle.rpm_effects.specs.Steps.{Bearer, bearer, is_out, Step, bearer_of}
-use Rattle.rpm_db.specs.State.{Bad, Good, Package}
+use Rattle.rpm_db.specs.State.{Bad, Good, Package, header_or}
 use Rattle.rpm_header.specs.Header.{Header, header}
 use Rattle.rpm_header.specs.declared.form.HeaderFault.{HeaderFault}
 use Rattle.rpm_select.specs.Picks.{entry_in, number_in}
-use Rattle.rpm_print.specs.Printed.{bad_step, header_step, printed_step, step_by, step_of}
-use Rattle.rpm_effects.specs.Portions.{is_bad}
-use Rattle.rpm_print.specs.declared.reading.Request.{Request}
+use Rattle.rpm_print.specs.Printed.{bad_step, printed_step, step_by, step_of}
+use Rattle.rpm_effects.specs.laws.Parts.{is_bad}
+use Rattle.rpm_command.specs.declared.reading.Request.{Request}
 use Rattle.rpm_qfeval.specs.Meaning.{meaning}
 use Rattle.rpm_qfparse.specs.Tree.{Tree}
 use Rattle.rpm_select.specs.declared.picked.Picked.{Picked}
-use Rattle.rpm_print.specs.declared.reading.Request.TheVariants as request
+use Rattle.rpm_command.specs.declared.reading.Request.TheVariants as request
 use Rattle.rpm_select.specs.declared.picked.Picked.TheVariants as pick
+
+-- a header in the format that was asked, or the line that reports it
+abbrev pub header_step : Tree → ℕ → ℕ → Result Header HeaderFault → Step
+header_step tree j n r = header_or (λ h. printed_step (bearer j n) (meaning h n tree)) r (bad_step j n)
 
 bearer-printed : (for : Bearer) (what : Result (List ℕ) (ℕ × ℕ)) → bearer_of (printed_step for what) ≡ for
 bearer-printed for (Ok bytes) = refl

@@ -9,7 +9,8 @@ use Rattle.rpm_outside.specs.Sinks.{IsPrefix}
 use Rattle.rpm_outside.specs.declared.buffered.Buffered.{Buffered}
 use Rattle.rpm_outside.specs.laws.Flushed.{flushed, stopped}
 use Rattle.rpm_qfeval.specs.Printed.{Differs, EndsSo, Fails, Prints, Done}
-use Rattle.rpm_effects.specs.Answers.{Closes, StepIs}
+use Rattle.rpm_effects.specs.Answers.{StepIs}
+use Rattle.rpm_effects.specs.laws.Closing.{Closes}
 use Rattle.rpm_outside.specs.SinkFrame.{Writes}
 use Rattle.rpm_print.specs.Printed.{printed_step}
 use Rattle.rpm_effects.specs.declared.tally.Halt.TheVariants as halt

@@ -1,15 +1,28 @@
 -- What is read of the numbers that a picker goes over.
-use Rattle.std.proofs.Common.{◌≡◌, ℕ, ◌+◌, ◌-◌, ◌<◌, ◌≤◌, sym, subst, arith}
+use Rattle.std.proofs.Common.{◌≡◌, ℕ, zero, suc, ◌+◌, ◌-◌, ◌<◌, ◌≤◌, List, [], ◌∷◌, take, refl, sym, subst, arith}
 use Rattle.rpm_db.specs.Database.{Database}
 use Rattle.rpm_db.specs.State.{packages}
 use Rattle.rpm_outside.specs.Files.{Files}
 use Rattle.rpm_select.specs.Picks.{entry_in, number_in}
-use Rattle.rpm_select.specs.Reach.{HasIndexRows, Reach, reach_to, Serves}
+use Rattle.rpm_select.specs.Reach.{HasIndexRows, Reach, reach_all, reach_to, Serves}
 use Rattle.rpm_select.specs.declared.picked.Picked.{Picked}
 use Rattle.rpm_select.specs.laws.Costing.{reach_up}
+use Rattle.rpm_print.specs.Reads.{reach_sum}
 use Rattle.rpm_pkgdb.specs.Store.{Store}
 use Rattle.rpm_select.specs.declared.selection.Selection.{Selection}
 use Rattle.rpm_select.specs.declared.picked.Picked.TheVariants as pick
+
+-- a question reads this much for the arguments before the argument j
+abbrev pub reach_before : List Reach → Database → ℕ → ℕ
+reach_before [] db j = 0
+reach_before (r ∷ rs) db zero = 0
+reach_before (r ∷ rs) db (suc j) = reach_all r db + reach_before rs db j
+
+pub before_is : (rs : List Reach) (db : Database) (j : ℕ) → reach_before rs db j ≡ reach_sum (take j rs) db
+before_is [] db zero = refl
+before_is [] db (suc j) = refl
+before_is (r ∷ rs) db zero = refl
+before_is (r ∷ rs) db (suc j) = (let rest = before_is rs db j in omega (arith, rest))
 
 -- one more of them
 pub reach_then : (r : Reach) (db : Database) (low before between : ℕ) {n m now : ℕ} → n ≤ m

@@ -39,5 +39,5 @@ bare_move (code.Shows t r) = moves.Shows t r.now
 bare_move (code.Opens r) = moves.Opens r.now
 bare_move (code.Asks t r) = moves.Asks t r.now
 
-abbrev pub bare_rows : List Row → List (Show × List ℕ)
-bare_rows rows = map (λ (r : Row). (r.0, r.1.now)) rows
+abbrev pub bare_rows : List Row → List (List ℕ × Show)
+bare_rows rows = map (λ (r : Row). (r.1.now, r.0)) rows

@@ -1,7 +1,8 @@
 -- What is said of a whole argument, and of all of them.
-use Rattle.std.proofs.Common.{◌≡◌, ℕ, ◌≢◌, Bool, true, false, List, [], ◌∷◌, map, length, Result, Ok, Err, refl, sym}
-use Rattle.std.proofs.Common.{subst, arith}
+use Rattle.std.proofs.Common.{◌≡◌, ℕ, ◌≢◌, Bool, true, false, List, [], ◌∷◌, map, length, refl, sym}
+use Rattle.std.proofs.Common.{Option, is_some, Result, Ok, Err, subst, arith}
 use Rattle.std.specs.FinMap.{FinMap}
+use Rattle.std.specs.Option.{option_map_or}
 use Rattle.std.specs.Ordering.{nat_cmp}
 use Rattle.rpm_effects.specs.Progress.{Outputs, outputs}
 use Rattle.rpm_effects.specs.Steps.{Bearer, idle, whole_step}
@@ -10,17 +11,26 @@ use Rattle.rpm_db.specs.State.{Package}
 use Rattle.rpm_qfparse.specs.Tree.{Tree}
 use Rattle.rpm_select.specs.Reach.{Everything, Reach}
 use Rattle.rpm_select.specs.Selections.{picks}
-use Rattle.rpm_print.specs.Answers.{is_some_of}
+use Rattle.rpm_command.specs.Answers.{is_some_of}
 use Rattle.rpm_effects.specs.Answers.{PartIs}
 use Rattle.rpm_effects.specs.Classes.{IsOfRead}
 use Rattle.rpm_print.specs.Printed.{packages_part, step_of}
-use Rattle.rpm_query.specs.Queries.{answered_part, argument_part, missing_part, query_of}
+use Rattle.rpm_query.specs.Queries.{answered_part, argument_part, lent, missing_part, query_of, question_of}
 use Rattle.rpm_query.specs.Reach.{reaches_by}
 use Rattle.rpm_effects.specs.Portions.{before_others, parts_in_turn}
 use Rattle.rpm_words.specs.declared.switch.Chosen.{Chosen}
+use Rattle.rpm_select.specs.declared.selection.Selection.{Selection}
 use Rattle.rpm_select.specs.declared.selection.Selection.TheVariants as question
 use Rattle.rpm_effects.specs.laws.Stopping.{reached_empty, reached_later, reached_over, reached_unsunk}
 use Rattle.rpm_effects.specs.laws.Parts.{part_reads}
+
+-- an argument is a question
+abbrev pub is_question : Chosen → List ℕ → Bool
+is_question chosen text = is_some (question_of chosen (lent text))
+
+-- the packages that a selection picks, none where there is no selection
+abbrev pub picked_by : FinMap nat_cmp Package → Option Selection → List (ℕ × Package)
+picked_by packages asked = option_map_or (picks packages) asked []
 
 -- an argument by what became of its packages
 module _ (tree : Tree) (chosen : Chosen) (after j : ℕ) (text : List ℕ) {P Q : Bearer → Type 0} where

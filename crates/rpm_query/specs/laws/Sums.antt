@@ -1,11 +1,13 @@
 -- What is read for several arguments.
 use Rattle.std.proofs.Common.{◌≡◌, ℕ, zero, suc, ◌+◌, ◌≤◌, List, [], ◌∷◌, map, Option, Some, None, refl, add-one, ap}
 use Rattle.std.proofs.Common.{◌∙◌, arith}
-use Rattle.std.specs.Prelude.{slice_get}
+use Rattle.std.specs.Prelude.{slice_get, take}
 use Rattle.rpm_effects.specs.Steps.{Bearer}
 use Rattle.rpm_db.specs.Database.{Database, without_index}
 use Rattle.rpm_select.specs.Reach.{Everything, Reach, reach_all, These}
-use Rattle.rpm_print.specs.Reads.{reach_before, reach_sum, reached_cost, reached_by, reached_in, ReadsIn, ReadsOf}
+use Rattle.rpm_print.specs.Reads.{reach_sum, reached_cost, reached_by, ReadsIn, ReadsOf}
+use Rattle.rpm_print.specs.laws.Reached.{before_is, reach_before}
+use Rattle.std.specs.Option.{option_map_or}
 use Rattle.rpm_db.specs.Database.{store_of}
 
 before_none : (rs : List Reach) (db : Database) → reach_before rs db 0 ≡ 0
@@ -39,7 +41,8 @@ before_some (r ∷ rs) db (suc k) =
 pub reads_by : (rs : List Reach) (db : Database) (k : ℕ) (r : Reach) (before between now : ℕ) (for : Bearer)
     → slice_get rs k ≡ Some r
     → between ≤ before + reach_before rs db k → ReadsOf k r db between now for → now ≤ before + reached_by rs db for
-reads_by rs db k r before between now for is le read = rw (read.0, is) (omega (arith, le, read.1))
+reads_by rs db k r before between now for is le read =
+    rw (read.0, is) (omega (arith, le, read.1, before_is rs db k))
 
 -- where there is one
 pub reads_one : (r : Reach) (db : Database) (n before between now : ℕ) (for : Bearer) → between ≤ before + 0
@@ -67,20 +70,16 @@ store_to Everything db (Some n) = refl
 store_to (These ns) db (Some n) = refl
 
 store_in : (r : Option Reach) (db : Database) (number : Option ℕ)
-    → reached_in r db number ≡ reached_in r (without_index (store_of db)) number
+    → option_map_or (λ q. reached_cost q db number) r 0
+    ≡ option_map_or (λ q. reached_cost q (without_index (store_of db)) number) r 0
 store_in None db number = refl
 store_in (Some r) db number = store_to r db number
-
-store_before : (rs : List Reach) (db : Database) (j : ℕ)
-    → reach_before rs db j ≡ reach_before rs (without_index (store_of db)) j
-store_before [] db j = refl
-store_before (r ∷ rs) db zero = refl
-store_before (r ∷ rs) db (suc j) = omega (arith, store_all r db, store_before rs db j)
-
-pub store_by : (rs : List Reach) (db : Database) (for : Bearer)
-    → reached_by rs db for ≡ reached_by rs (without_index (store_of db)) for
-store_by rs db for = omega (arith, store_before rs db for.argument, store_in (slice_get rs for.argument) db for.number)
 
 pub store_sum : (rs : List Reach) (db : Database) → reach_sum rs db ≡ reach_sum rs (without_index (store_of db))
 store_sum [] db = refl
 store_sum (r ∷ rs) db = omega (arith, store_all r db, store_sum rs db)
+
+pub store_by : (rs : List Reach) (db : Database) (for : Bearer)
+    → reached_by rs db for ≡ reached_by rs (without_index (store_of db)) for
+store_by rs db for =
+    omega (arith, store_sum (take for.argument rs) db, store_in (slice_get rs for.argument) db for.number)

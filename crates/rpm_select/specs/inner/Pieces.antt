@@ -1,4 +1,5 @@
 -- The pieces that the code cuts.
+use Rattle.std.specs.Prelude.{ℕ, List, Bool, ◌==◌}
 use Rattle.rpm_select.specs.declared.piece.Piece.{Piece}
 use Rattle.rpm_select.specs.declared.piece.Piece.TheVariants as piece
 use Rattle.rpm_select.specs.declared.piece.Written.{Written}
@@ -11,6 +12,14 @@ piece_in piece.Question = glob.Question
 piece_in (piece.Byte b) = glob.Byte b
 piece_in (piece.Set turned members) = glob.Set turned members.now
 
--- a piece of a pattern as it is written, with its length
-abbrev pub written_in : Written → glob.Written
-written_in w = glob.written_piece (piece_in w.piece) w.size
+-- A piece of a pattern as it is written, with its length.
+abbrev pub written_in : Written → glob.Piece × ℕ
+written_in w = (piece_in w.piece, w.size)
+
+-- The pieces of a whole glob.
+abbrev pub pieces : List ℕ → List glob.Piece
+pieces pattern = glob.pieces_behind 0 pattern
+
+-- A byte is a ].
+abbrev pub is_close : ℕ → Bool
+is_close b = b == 93

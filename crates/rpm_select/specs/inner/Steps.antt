@@ -3,7 +3,8 @@ use Rattle.std.specs.Prelude.{◌≡◌, ◌≢◌, ℕ, ◌<◌, List, [], ◌�
 use Rattle.rpm_select.specs.declared.matching.Move.{Move}
 use Rattle.rpm_select.specs.declared.matching.Move.TheVariants.{Done, Starred, Taken, Short, Stuck}
 use Rattle.rpm_select.specs.inner.Unclosed.{IsUnclosed}
-use Rattle.rpm_select.specs.Glob.{Piece, Star, takes_byte, stands_for, pieces}
+use Rattle.rpm_select.specs.Glob.{Piece, Star, takes_byte, stands_for}
+use Rattle.rpm_select.specs.inner.Pieces.{pieces}
 
 -- what a move says of a glob and a text
 abbrev pub MoveIs : List ℕ → List ℕ → Move → Type 0

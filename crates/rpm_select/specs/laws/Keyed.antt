@@ -8,10 +8,11 @@ use Rattle.std.specs.Str.{bytes_eq}
 use Rattle.std.proofs.lemmas.Bool.{and_parts, eqb-true}
 use Rattle.std.proofs.lemmas.Slice.Eq.{bytes_eq-Decides}
 use Rattle.rpm_tags.specs.Keys.{number_key}
-use Rattle.rpm_tags.specs.Wanted.{list_or_empty, beside, first_or, counts_for, any_counts_for, base_name}
+use Rattle.rpm_tags.specs.Wanted.{list_or_empty, beside, first_or, counts_for, base_name}
 use Rattle.rpm_version.specs.Capability.{CapabilityParts}
 use Rattle.rpm_version.specs.Range.{overlaps}
-use Rattle.rpm_select.specs.Selections.{meets_capability, is_text_among, is_text}
+use Rattle.rpm_select.specs.Selections.{is_text_among}
+use Rattle.rpm_select.specs.laws.Parts.{meets_capability, is_text}
 
 pub or_left : (a b : Bool) → a ≡ true → (a || b) ≡ true
 or_left true b is = refl
@@ -57,7 +58,7 @@ named c (name ∷ names) flags versions is =
     ]
 
 -- the name of a file that counts for a path is what the path ends in
-zipped : (path : List ℕ) (files bases : List (List ℕ)) → list_any (counts_for path) (zip files bases) ≡ true
+pub zipped : (path : List ℕ) (files bases : List (List ℕ)) → list_any (counts_for path) (zip files bases) ≡ true
     → is_text_among (base_name path) bases ≡ true
 zipped path [] bases is = absurd cc
 zipped path (f ∷ fs) [] is = absurd cc
@@ -68,12 +69,6 @@ zipped path (f ∷ fs) (b ∷ bs) is =
           (turned b (base_name path) (and_parts (bytes_eq f path) (bytes_eq b (base_name path)) first).1)
       | inr later ↦ or_right (bytes_eq (base_name path) b) (is_text_among (base_name path) bs) (zipped path fs bs later)
     ]
-
-pub based : (path : List ℕ) (files bases : Option (List (List ℕ))) → any_counts_for path files bases ≡ true
-    → is_text_among (base_name path) (list_or_empty bases) ≡ true
-based path (Some files) (Some bases) is = zipped path files bases is
-based path (Some files) None is = absurd cc
-based path None bases is = absurd cc
 
 -- a number is a key among the keys of numbers
 pub numbered : (t : ℕ) (ns : List ℕ) → list_any (λ m. m == t) ns ≡ true

@@ -4,8 +4,15 @@ use Rattle.rpm_outside.specs.Files.{Units}
 use Rattle.rpm_hindex.specs.State as hindex
 use Rattle.rpm_db.specs.Database.{Database, KeepsIndex, KeepsUnits, is_indexed}
 use Rattle.rpm_select.specs.declared.selection.Selection.{Selection}
+use Rattle.rpm_select.specs.declared.selection.Selection.TheVariants.{Number}
+use Rattle.std.specs.Prelude.{[], ◌∷◌}
 use Rattle.rpm_select.specs.Candidates.{has_keys}
-use Rattle.rpm_select.specs.Reach.{asks_index, HasIndexRows}
+use Rattle.rpm_select.specs.Reach.{Everything, HasIndexRows, Reach, These, asks_index}
+
+-- A question goes over its number, or all, where no index is asked.
+abbrev pub unindexed_reach : Selection → Reach
+unindexed_reach (Number m) = These (m ∷ [])
+unindexed_reach others = Everything
 
 keeps_none : (idx : Units) (o : Option hindex.IndexState) → is_some o ≡ false → KeepsUnits idx o
 keeps_none idx None none = tt

@@ -1,6 +1,7 @@
 -- What the elements of an entry keep of it.
 use Rattle.std.specs.Prelude.{◌≡◌, ℕ, ◌+◌, ◌^◌, ◌≤◌, ◌<◌, true, List, length, drop, All}
-use Rattle.rpm_tags.specs.Value.{are_matched, file_names}
+use Rattle.rpm_tags.specs.Value.{file_names}
+use Rattle.rpm_tags.specs.inner.Paths.{are_matched}
 use Rattle.rpm_header.specs.Header.{max_data, Item, has_numbers, has_texts, IsEntryWhole}
 
 pub record KeepsNumbers (e : Item) : Type 0 where

@@ -1,9 +1,9 @@
 -- Words that break no rule: no argument is at fault, and there are as many as the command takes.
-use Rattle.std.proofs.Common.{◌≡◌, ℕ, List, [], ◌∷◌, Option, Some, None, Ok, Err, Bool, true, false, ◌||◌, length, refl}
+use Rattle.std.proofs.Common.{◌≡◌, ℕ, List, [], ◌∷◌, Option, Some, None, Result, Ok, Err, Bool, true, false, ◌||◌, length, refl}
 use Rattle.std.proofs.Common.{sym, subst}
 use Rattle.std.specs.Prelude.{unwrap_or, nat_lt, if◌then◌else◌}
 use Rattle.std.specs.Option.{option_map_or}
-use Rattle.std.specs.List.{filter_map, cons_option, AllByRecursion}
+use Rattle.std.specs.List.{filter_map, cons_option, slice_get, AllByRecursion}
 use Rattle.rpm_words.specs.declared.switch.Program.{Program}
 use Rattle.rpm_words.specs.declared.switch.Command.{Command}
 use Rattle.rpm_words.specs.declared.switch.Command.TheVariants as command
@@ -16,16 +16,28 @@ use Rattle.rpm_words.specs.declared.fault.WordsKind.TheVariants.{NoMode, Missing
 use Rattle.rpm_words.specs.declared.takes.ArgumentRule.{ArgumentRule}
 use Rattle.rpm_words.specs.declared.ask.Mode.{Mode}
 use Rattle.rpm_words.specs.declared.ask.Mode.TheVariants as mode
-use Rattle.rpm_words.specs.Command.{command_word}
 use Rattle.rpm_words.specs.Takes.{query_takes, takes, fewest, expected_form, checked_arguments}
-use Rattle.rpm_words.specs.Fault.{fault, first_told}
+use Rattle.rpm_words.specs.Fault.{fault}
 use Rattle.rpm_words.specs.Token.{said_tokens}
 use Rattle.rpm_words.specs.Place.{program_of}
 use Rattle.rpm_words.specs.Seen.{seen}
-use Rattle.rpm_words.specs.Broken.{argument_fault, early_word_fault, no_value, no_mode, first_misplaced, lacks_option}
+use Rattle.rpm_words.specs.Broken.{argument_fault, early_word_fault, first_misplaced, lacks_option}
 use Rattle.rpm_words.specs.Broken.{too_few, too_many, bad_argument, broken_by, first_broken}
 use Rattle.rpm_words.specs.inner.Commands.{command_of_mode, command_back}
-use Rattle.rpm_words.specs.Ask.{AskParts, arguments, mode_of, meant_parts, fault_or, asked_by, ask, IsFit}
+use Rattle.rpm_words.specs.inner.Steps.{no_value, no_mode}
+use Rattle.rpm_words.specs.Ask.{AskParts, arguments, mode_of, meant_parts, asked_by, ask, IsFit}
+
+-- the first element, if there is one
+abbrev pub command_word : {X : Type 0} → List X → Option X
+command_word xs = slice_get xs 0
+
+-- the first of the rules that is broken
+abbrev pub first_told : List (Option WordsFault) → Option WordsFault
+first_told os = slice_get (filter_map (λ o. o) os) 0
+
+-- the first fault, or what is asked for where there is none
+abbrev pub fault_or : Option WordsFault → AskParts → Result AskParts WordsFault
+fault_or o a = elim o [ Some f ↦ Err f | None ↦ Ok a ]
 
 -- where none is told there is none
 each_untold : (os : List (Option WordsFault)) → first_told os ≡ None → AllByRecursion (λ o. o ≡ None) os

@@ -1,6 +1,6 @@
 use Rattle.std.proofs.Common.{◌≡◌, ◌+◌, true, false, refl, arith, ◌∙◌}
-use Rattle.rpm_change.proofs.Vocabulary.{err_is, err_joins, err_none, from_place, going_end, going_more, going_start, going_stop, hand_then, import_listed}
-use Rattle.rpm_change.proofs.Vocabulary.{inner, bytes_left, list_head, listed_headers, none_went, state_in, turn}
+use Rattle.rpm_change.proofs.Vocabulary.{err_is, err_joins, err_none, from_place, going_end, going_more, going_start, going_stop, hand_then}
+use Rattle.rpm_change.proofs.Vocabulary.{inner, bytes_left, list_course, list_head, none_went, state_in, turn}
 use Rattle.rpm_change.proofs.Listed.{turn_splits, turn_ahead, within_next}
 use Rattle.rpm_change.specs.laws.Owing.{owing_none, owing_then}
 use Rattle.rpm_change.proofs.import.import_all.Goals as goal
@@ -8,7 +8,7 @@ use Rattle.rpm_change.proofs.import.import_all.Goals as goal
 pub loop-is_last-init : goal.loop-is_last-init
 loop-is_last-init g c =
     record {
-      goes = going_start g.D.Disk (import_listed c.args.most (listed_headers (bytes_left (g.S.Shelf.rest c.args.shelf.now))))
+      goes = going_start g.D.Disk (list_course c.args.most 1 (bytes_left (g.S.Shelf.rest c.args.shelf.now)))
           (none_went g.D.Disk g.met.D.Disk.follows_refl (owing_none g.D.Disk c.requires.gathering) _ _ c.requires.gathering.indexed
           (err_none g.E.Sink c.args.err.now (state_in g.D.Disk c.args.disk.now c.args.db.now)));
       few = omega arith;
@@ -33,7 +33,7 @@ loop-is_last-preserved g c =
     record {
       goes = going_more g.D.Disk g.met.D.Disk.follows_trans (err_joins g.E.Sink c.args.err.now c.loop-is_last.err c.import_next.new.err)
           (owing_then g.D.Disk) (λ owing both rows. owing.owes both.0 rows) (λ owing. owing.stays) (turn most k (list_head bytes))
-          (from_place is_last most (k + 1) (listed_headers behind)) (rw going at inv.goes)
+          (from_place is_last most (k + 1) behind) (rw going at inv.goes)
           (λ both after. turn_splits most k bytes is_last behind (done.leaves both.1)) done.went;
       few = omega (arith, inv.few, done.one);
       within = λ more. within_next most k is_last more done.last;
@@ -54,7 +54,7 @@ returns-in_err-turn-clause-went g c =
     rw (err_is c.from_residual.result c.from_residual.ensures)
     (going_stop g.D.Disk g.met.D.Disk.follows_trans (err_joins g.E.Sink c.args.err.now c.loop-is_last.err c.import_next.new.err)
     (owing_then g.D.Disk) (λ owing both rows. owing.owes both.0 rows) (λ owing. owing.stays) (turn most k (list_head bytes))
-    (from_place split.0 most (k + 1) (listed_headers split.1.0)) (rw going at c.loop-is_last.invariant.goes)
+    (from_place split.0 most (k + 1) split.1.0) (rw going at c.loop-is_last.invariant.goes)
     (λ both. turn_splits most k bytes split.0 split.1.0 split.1.1) c.in_err-turn.ensures.went)
 
 pub returns-in_err-turn-clause-err : goal.returns-in_err-turn-clause-err

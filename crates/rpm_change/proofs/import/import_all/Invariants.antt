@@ -1,6 +1,6 @@
 use Rattle.std.proofs.Common.{◌≡◌, ◌+◌, ◌-◌, ◌≤◌, false}
 use Rattle.std.specs.Prelude.{IsTrue}
-use Rattle.rpm_change.proofs.Vocabulary.{due, EndedOnErr, from_place, Going, import_listed, inner, IsOwing, bytes_left, listed_headers, OwesOn}
+use Rattle.rpm_change.proofs.Vocabulary.{due, EndedOnErr, from_place, Going, inner, IsOwing, bytes_left, list_course, OwesOn}
 use Rattle.rpm_change.proofs.import.import_all.Given as goal
 
 abbrev pub invariant-loop-is_last : goal.invariant-loop-is_last
@@ -9,8 +9,8 @@ invariant-loop-is_last g l = record {
       (OwesOn g.D.Disk l.initial.disk l.initial.db l.initial.batch) (IsTrue g.D.Disk.tells × IsTrue g.S.Shelf.tells) l.initial.batch l.batch
       (due (g.D.Disk.files l.initial.disk) l.initial.db l.initial.batch) (due (g.D.Disk.files l.disk) l.db l.batch)
       l.initial.disk l.disk l.initial.db l.db (record { failed = l.failed; changes = l.changes }) (EndedOnErr g.E.Sink l.initial.err l.err)
-      (import_listed l.most (listed_headers (bytes_left (g.S.Shelf.rest l.initial.shelf))))
-      (from_place l.is_last l.most l.place (listed_headers (bytes_left (g.S.Shelf.rest l.shelf))));
+      (list_course l.most 1 (bytes_left (g.S.Shelf.rest l.initial.shelf)))
+      (from_place l.is_last l.most l.place (bytes_left (g.S.Shelf.rest l.shelf)));
   few : l.failed + l.changes + 1 ≤ l.place;
   within : l.is_last ≡ false → l.place ≤ l.most + 1;
   below : l.place ≤ l.most + 2;

@@ -1,10 +1,10 @@
 use Rattle.std.proofs.Common.{◌≡◌, Ok, Err, refl, min, arith}
 use Rattle.std.specs.Prelude.{codes}
-use Rattle.rpm_change.proofs.Vocabulary.{absent_line, bytes_at, err_is, err_stopped, course_of_failure, import_list, import_listed, bytes_left, listed_headers, once, ready_line}
+use Rattle.rpm_change.proofs.Vocabulary.{absent_line, bytes_at, err_is, err_stopped, course_of_failure, import_list, bytes_left, list_course, ready_line}
 use Rattle.rpm_change.proofs.Vocabulary.{ToErr, went_as, whole_step}
 use Rattle.rpm_change.proofs.Filed.{opened_is}
 use Rattle.rpm_change.proofs.Halted.{index_halts}
-use Rattle.rpm_change.proofs.Imported.{went_once}
+use Rattle.rpm_change.proofs.Imported.{once, went_once}
 use Rattle.rpm_change.specs.laws.Owing.{list_finished, list_stopped, list_unfinished, owing_begun}
 use Rattle.rpm_change.proofs.import.import_most.Goals as goal
 
@@ -15,7 +15,7 @@ import_all-requires-clause-gathering g c =
 pub returns-in_err-tally-in-Ok-clause-went : goal.returns-in_err-tally-in-Ok-clause-went
 returns-in_err-tally-in-Ok-clause-went g c =
     let rest = g.S.Shelf.rest c.open.new.self in
-    let course = import_listed c.args.most (listed_headers (bytes_left rest)) in
+    let course = list_course c.args.most 1 (bytes_left rest) in
     let found = bytes_at (g.S.Shelf.paths c.args.shelf.now) (codes "-") in
     let b = c.begin-batch.ensures in
     rw (err_is c.from_residual.result c.from_residual.ensures) (went_as g.D.Disk (once course) (import_list c.args.most found) (λ both. both)
@@ -26,7 +26,7 @@ returns-in_err-tally-in-Ok-clause-went g c =
 pub returns-in-Ok-finish-clause-went : goal.returns-in-Ok-finish-clause-went
 returns-in-Ok-finish-clause-went g c =
     let rest = g.S.Shelf.rest c.open.new.self in
-    let course = import_listed c.args.most (listed_headers (bytes_left rest)) in
+    let course = list_course c.args.most 1 (bytes_left rest) in
     let found = bytes_at (g.S.Shelf.paths c.args.shelf.now) (codes "-") in
     let b = c.begin-batch.ensures in
     let f = c.in-Ok-finish.ensures in
@@ -43,7 +43,7 @@ halt_of-requires g c = record { halting = index_halts c.in-Err-finish.fault c.in
 pub returns-in-Err-finish-clause-went : goal.returns-in-Err-finish-clause-went
 returns-in-Err-finish-clause-went g c =
     let rest = g.S.Shelf.rest c.open.new.self in
-    let course = import_listed c.args.most (listed_headers (bytes_left rest)) in
+    let course = list_course c.args.most 1 (bytes_left rest) in
     let found = bytes_at (g.S.Shelf.paths c.args.shelf.now) (codes "-") in
     let b = c.begin-batch.ensures in
     let f = c.in-Err-finish.ensures in

@@ -1,6 +1,6 @@
 use Rattle.std.proofs.Common.{◌≡◌, ◌+◌, ◌≤◌, true, Err, refl, sym, ap, ◌∙◌, subst, ⊎_elim, arith}
 use Rattle.std.specs.Prelude.{IsTrue}
-use Rattle.rpm_commit.proofs.Vocabulary.{asked_task, changes_index, Course, EmptyBy, Files, images, is_anew, is_of_streams, IsLawful, laid_files, LimitsBy, Log}
+use Rattle.rpm_commit.proofs.Vocabulary.{changes_index, Course, EmptyBy, Files, images, is_anew, is_of_streams, IsLawful, laid_files, LimitsBy, Log}
 use Rattle.rpm_commit.proofs.Vocabulary.{KeepsLog, log_state, needs_none, AnswersChange, overlay_below, overlay_held, overlay_read, overlay_starved, ran, reads_shelf}
 use Rattle.rpm_commit.proofs.Vocabulary.{recovered_kept, reopened, same_kept}
 use Rattle.rpm_commit.proofs.Vocabulary.{ReopensAsOneOf, Rose, shown_outputs, State, task_course, task_parts, TaskParts, without_log, why_of, why_of_load, why_of_recover}
@@ -15,7 +15,7 @@ use Rattle.rpm_commit.specs.laws.Unmade.{early_load, early_recover, idle_run, un
 use Rattle.rpm_commit.proofs.changing.change_asked.Goals as goal
 
 pub returns-in-Ok-load-clause-answers : goal.returns-in-Ok-load-clause-answers
-returns-in-Ok-load-clause-answers g c = λ told shelf.
+returns-in-Ok-load-clause-answers g c = λ words told shelf.
     let D = g.D.Disk in
     let first = c.recover.new.disk in
     let end = c.change_on-ended.new.disk in
@@ -23,9 +23,9 @@ returns-in-Ok-load-clause-answers g c = λ told shelf.
     let final = c.end_transaction.result.1 in
     let new = laid_files (overlay_held end) (D.files last) in
     let log = (D.files first).log in
-    let recovered = c.in-Ok-recover.ensures in
+    let recovered = c.in-Ok.ensures in
     let works = c.change_on-ended.ensures.works in
-    let t = task_parts c.in-Ok.task in
+    let t = task_parts c.args.task.now in
     let course : State → Course = task_course (g.S.Shelf.paths c.args.shelf.now) c.args.now t in
     let ended = c.change_on-ended.result in
     let given = c.end_transaction.result.0.why in
@@ -37,8 +37,7 @@ returns-in-Ok-load-clause-answers g c = λ told shelf.
     let rn = overlay_read D end in
     let before = shown_outputs g.O.Sink g.E.Sink c.args.out.now c.args.err.now in
     let now = shown_outputs g.O.Sink g.E.Sink c.change_on-ended.new.out c.change_on-ended.new.err in
-    let asked = c.in-Ok.ensures.asked in
-    let telling : IsTrue D.tells × (reads_shelf t ≡ true → IsTrue g.S.Shelf.tells) = (told, λ reads. shelf (sym (ap reads_shelf asked) ∙ reads)) in
+    let telling : IsTrue D.tells × (reads_shelf t ≡ true → IsTrue g.S.Shelf.tells) = (told, shelf) in
     let laid = c.in-Ok-load.ensures.files told ∙ ap (λ (f : Files). with_file Log log f) (recovered.stands told) in
     let worked = subst (λ (f : Files). Work (is_anew t) (changes_index t) course f new ended before now) laid (works.worked telling) in
     let met = subst (λ (f : Files). LimitsBy (is_anew t) (IsLawful f.pkg f.idx) course f (why_of ended)) laid (works.limits telling) in
@@ -46,20 +45,17 @@ returns-in-Ok-load-clause-answers g c = λ told shelf.
     ∙ sym (shut_stands (D.files first) (recovered.closed told)) ∙ recovered.stands told in
     let as_read = g.met.D.Disk.earlier final (D.moment last) (D.moment final) (D.files final) told ends.leaves.later (omega arith)
     (g.met.D.Disk.as_read final told) in
-    subst (λ (k : TaskParts). AnswersChange (ran D c.args.words.now given n (c.args.disk, final) (before, now)) k
-    (task_course (g.S.Shelf.paths c.args.shelf.now) c.args.now k)) asked
-    (transaction_one D c.args.words.now t course c.args.disk last final log new before now (g.met.D.Disk.as_read c.args.disk told) _ (recovered.says told)
+    (transaction_one D words t course c.args.disk last final log new before now (g.met.D.Disk.as_read c.args.disk told) _ (recovered.says told)
     (below_run D first mid last ro rn looks works.runs.goes_on told c.args.disk (ReopensAsOneOf (images D c.args.disk)) (recovered.images told)) same as_read
     ended given n worked met works.halted ends (c.end_transaction.ensures.log told))
 
 pub returns-in-Ok-load-clause-empty : goal.returns-in-Ok-load-clause-empty
 returns-in-Ok-load-clause-empty g c = λ told.
-    let needs = needs_none (task_parts c.in-Ok.task) in
+    let needs = needs_none (task_parts c.args.task.now) in
     let r = reopened (g.D.Disk.files c.recover.new.disk) in
     let ended = c.change_on-ended.result in
     let given = c.end_transaction.result.0.why in
-    subst (λ (t : TaskParts). EmptyBy (needs_none t) (reopened (g.D.Disk.files c.args.disk)) given) c.in-Ok.ensures.asked
-    (subst (λ (f : Files). EmptyBy needs f given) (c.in-Ok-recover.ensures.stands told)
+    (subst (λ (f : Files). EmptyBy needs f given) (c.in-Ok.ensures.stands told)
     (transaction_empty needs r ended given c.end_transaction.result.0.changes (c.end_transaction.ensures.ends told).says
     (same_empty needs _ r (why_of ended) (ap (λ (f : Files). f.pkg) (c.in-Ok-load.ensures.files told)) (c.change_on-ended.ensures.works.empty told))))
 
@@ -75,7 +71,7 @@ returns-in-Ok-load-clause-keeps g c =
     let end = c.change_on-ended.new.disk in
     let last = overlay_below end in
     let final = c.end_transaction.result.1 in
-    let start : D.faults old ≤ D.faults mid = omega (arith, c.in-Ok-recover.ensures.cause.later, c.in-Ok-load.ensures.cause.later) in
+    let start : D.faults old ≤ D.faults mid = omega (arith, c.in-Ok.ensures.cause.later, c.in-Ok-load.ensures.cause.later) in
     let so_far : D.faults mid ≤ D.faults last = works.runs.goes_on.later in
     let later : D.faults last ≤ D.faults final = said.later in
     let by_commit : Rose (D.faults last) (D.faults final) → Rose (D.faults old) (D.faults final) = λ higher. omega (arith, start, so_far, higher) in
@@ -86,7 +82,7 @@ returns-in-Ok-load-clause-keeps g c =
     record {
       counted = said.counted;
       of_words = said.of_words;
-      goes_on = goes old last final (goes old mid last (goes old first mid c.in-Ok-recover.ensures.reads.goes_on c.in-Ok-load.ensures.looks.goes_on)
+      goes_on = goes old last final (goes old mid last (goes old first mid c.in-Ok.ensures.reads.goes_on c.in-Ok-load.ensures.looks.goes_on)
           works.runs.goes_on.below) said.goes_on;
       disk = record { later = omega (arith, start, so_far, later); rose = λ is. ⊎_elim by_commit before_it (said.disk is) };
     }
@@ -98,7 +94,7 @@ returns-in-Ok-load-clause-streams g c =
     let out = streams.hands.out in
     let err = streams.hands.err in
     record {
-      unread = λ reads. streams.unread (ap reads_shelf c.in-Ok.ensures.asked ∙ reads);
+      unread = streams.unread;
       paths = streams.paths;
       shelf = record { later = streams.shelf.later; rose = λ is. streams.shelf.rose (kept (ap is_of_streams is) ∙ ap Err is) };
       hands = record {
@@ -115,17 +111,17 @@ returns-in-Ok-load-clause-streams g c =
 
 -- ---- not loaded
 
-pub returns-in-Ok-recover-clause-answers : goal.returns-in-Ok-recover-clause-answers
-returns-in-Ok-recover-clause-answers g c = λ told shelf.
+pub returns-in-Err-load-clause-answers : goal.returns-in-Err-load-clause-answers
+returns-in-Err-load-clause-answers g c = λ words told shelf.
     let D = g.D.Disk in
     let first = c.recover.new.disk in
     let back = c.in-Err-load.refused.disk in
     let fault = c.in-Err-load.refused.why in
     let looks = c.in-Err-load.ensures.looks in
-    let recovered = c.in-Ok-recover.ensures in
-    let t = asked_task c.args.words.now c.args.ask.now in
-    rw (c.unchanged-in-Err-load.ensures, c.why_of_load.ensures)
-    (unmade_one D c.args.words.now t (task_course (g.S.Shelf.paths c.args.shelf.now) c.args.now t) c.args.disk back
+    let recovered = c.in-Ok.ensures in
+    let t = task_parts c.args.task.now in
+    rw (c.unchanged.ensures, c.why_of_load.ensures)
+    (unmade_one D words t (task_course (g.S.Shelf.paths c.args.shelf.now) c.args.now t) c.args.disk back
     (ap reopened (looks.untouched told).same ∙ recovered.stands told)
     (subst (λ (f : Files). KeepsLog (D.files c.args.disk) f) (sym (looks.untouched told).same)
     (recovered_kept (D.files c.args.disk) (D.files first) (recovered.kept told)))
@@ -135,22 +131,13 @@ returns-in-Ok-recover-clause-answers g c = λ told shelf.
 
 -- ---- not recovered
 
-pub returns-clause-answers : goal.returns-clause-answers
-returns-clause-answers g c = λ told shelf.
-    let first = c.in-Err-recover.ensures in
-    let fault = c.in-Err-recover.fault in
-    let t = asked_task c.args.words.now c.args.ask.now in
-    rw (c.unchanged-in-Err-recover.ensures, c.why_of_recover.ensures)
-    (unmade_one g.D.Disk c.args.words.now t (task_course (g.S.Shelf.paths c.args.shelf.now) c.args.now t) c.args.disk c.recover.new.disk (first.stands told)
+pub returns-in-Err-clause-answers : goal.returns-in-Err-clause-answers
+returns-in-Err-clause-answers g c = λ words told shelf.
+    let first = c.in-Err.ensures in
+    let fault = c.in-Err.fault in
+    let t = task_parts c.args.task.now in
+    rw (c.unchanged-in-Err.ensures, c.why_of_recover.ensures)
+    (unmade_one g.D.Disk words t (task_course (g.S.Shelf.paths c.args.shelf.now) c.args.now t) c.args.disk c.recover.new.disk (first.stands told)
     (recovered_kept (g.D.Disk.files c.args.disk) (g.D.Disk.files c.recover.new.disk) (first.kept told)) (first.images told)
     (shown_outputs g.O.Sink g.E.Sink c.args.out.now c.args.err.now) (why_of_recover fault)
     (early_recover (log_state (g.D.Disk.files c.args.disk).log) fault (first.says told)))
-
--- ---- not begun
-
-pub returns-in-Err-clause-answers : goal.returns-in-Err-clause-answers
-returns-in-Err-clause-answers g c = λ told shelf.
-    let t = asked_task c.args.words.now c.args.ask.now in
-    rw c.unchanged.ensures (unmade_one g.D.Disk c.args.words.now t (task_course (g.S.Shelf.paths c.args.shelf.now) c.args.now t) c.args.disk c.args.disk refl
-    (same_kept (g.D.Disk.files c.args.disk)) (idle_run g.D.Disk c.args.disk)
-    (shown_outputs g.O.Sink g.E.Sink c.args.out.now c.args.err.now) why.NoMemory tt)

@@ -12,3 +12,11 @@ returns-in-BadIndex g c = rw c.in-BadIndex.is c.put_number-in-BadIndex.ensures
 pub returns-in-NotEmpty : goal.returns-in-NotEmpty
 unfolding closing
 returns-in-NotEmpty g c = rw c.in-NotEmpty.is c.put_number-in-NotEmpty.ensures
+
+pub returns-in-BadFormat : goal.returns-in-BadFormat
+unfolding closing
+returns-in-BadFormat g c = rw c.in-BadFormat.is c.put_fault.ensures
+
+pub returns-in-Damaged : goal.returns-in-Damaged
+unfolding closing
+returns-in-Damaged g c = rw c.in-Damaged.is c.put_damage.ensures

@@ -4,7 +4,6 @@ use Rattle.rpm_report.proofs.Vocabulary.{concat, conflict_line, label_told, whol
 use Rattle.rpm_report.proofs.file_report.put_conflict.Goals as goal
 
 pub returns-clause-part : goal.returns-clause-part
-unfolding conflict_line
 returns-clause-part g c = λ et e.
     let r = c.args.report.now in
     let found = c.args.conflict.now in

@@ -8,7 +8,6 @@ use Rattle.rpm_report.proofs.ordering.put_class.Goals as goal
 
 -- the line in its pieces
 pieces_are : (n : ℕ) {digits : List ℕ} → digits ≡ decimal n → concat (codes "cycle: " ∷ digits ∷ codes "\n" ∷ []) ≡ cycle_line n
-unfolding cycle_line
 pieces_are n is = ap (λ (d : List ℕ). concat (codes "cycle: " ∷ d ∷ codes "\n" ∷ [])) is
 
 pub returns-then-count-eq1-clause-went : goal.returns-then-count-eq1-clause-went

@@ -1,8 +1,7 @@
-use Rattle.rpm_report.proofs.Vocabulary.{Anywhere, Files, inner, is_some_of, packages, packages_in, store_of, unmet, unmet_part, unmet_step}
+use Rattle.rpm_report.proofs.Vocabulary.{Anywhere, Files, inner, packages, packages_in, store_of, unmet, Unmet, unmet_part, unmet_step}
 use Rattle.rpm_select.specs.Frame.{HasKeptRows}
-use Rattle.std.proofs.Common.{◌≡◌, ◌==◌, Bool, true, false, not, List, [], ◌∷◌, map, length, refl, sym, ap, ◌∙◌, arith}
+use Rattle.std.proofs.Common.{◌≡◌, ◌==◌, Bool, true, not, List, [], map, length, refl, sym, ap, ◌∙◌}
 use Rattle.std.specs.Prelude.{IsTrue}
-use Rattle.std.proofs.lemmas.Bool.Decides.{nat_tests}
 use Rattle.std.proofs.lemmas.Result.{err_from_is_err_and}
 use Rattle.rpm_print.specs.laws.Askable.{asked_still}
 use Rattle.rpm_report.proofs.Behind.{behind_first, behind_stop, behind_told, question_broken, question_read}
@@ -12,12 +11,6 @@ use Rattle.rpm_report.proofs.SoFar.{glances, peeks_more}
 use Rattle.rpm_report.proofs.unsatisfied.report_unmet.Given.{Over}
 use Rattle.rpm_report.proofs.unsatisfied.report_unmet.Goals.{After-put_each_unmet}
 use Rattle.rpm_report.proofs.unsatisfied.report_unmet.Goals as goal
-
-some_of : {X : Type 0} (xs : List X) → is_some_of xs ≡ not (length xs == 0)
-some_of [] = refl
-some_of (x ∷ xs) =
-    let test : (length (x ∷ xs) == 0) ≡ false = grind (arith, nat_tests) in
-    rw test refl
 
 -- what was found is what no package meets of those at the start
 module _ (g : Over) (c : After-put_each_unmet g) (told : IsTrue g.D.Disk.tells) (rows : HasKeptRows g.D.Disk c.args.disk.now c.args.db.now) where
@@ -91,7 +84,7 @@ returns-clause-went g c = λ told rows.
     let second = unmet_part (packages_in g.D.Disk c.args.disk.now c.args.db.now) in
     let then = (goal.at.returns-clause-went g c).After-put_each_unmet in
     behind_told second (c.in_ok-bad.ensures.went told _ _)
-    (ap is_some_of (sym (found g then told rows) ∙ c.as_slice.ensures ∙ sym c.as_slice-2.ensures) ∙ some_of c.as_slice-2.result.now
+    (ap (λ (us : List Unmet). not (length us == 0)) (sym (found g then told rows) ∙ c.as_slice.ensures ∙ sym c.as_slice-2.ensures)
     ∙ ap not (sym c.is_empty.ensures))
     (rw (lines g then told rows) at (c.in_ok-put_each_unmet.ensures.went told g.E.Sink.tells (g.E.Sink.taken (inner c.tell_each_bad.new.err))))
 

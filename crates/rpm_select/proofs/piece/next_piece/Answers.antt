@@ -15,4 +15,4 @@ returns-clause-value c =
     let w = written_in c.piece_at-first.result in
     one_cut c.args.glob.now w 0 some (c.piece_at-first.ensures.value
     ∙ ap (piece_at (get_or c.args.glob.now 0 0)) (rest_is 1 c.args.glob.now)) c.piece_at-first.ensures.some
-    ∙ ap (λ (rest : List ℕ). w.piece ∷ pieces rest) (sym (rest_is c.piece_at-first.result.size c.args.glob.now))
+    ∙ ap (λ (rest : List ℕ). w.0 ∷ pieces rest) (sym (rest_is c.piece_at-first.result.size c.args.glob.now))

@@ -1,5 +1,7 @@
-use Rattle.std.proofs.Common.{◌≡◌, true, false, refl, subst, sym, ◌∙◌}
-use Rattle.rpm_tool.proofs.Vocabulary.{ask, asks_format, inner, Undone}
+use Rattle.std.proofs.Common.{◌≡◌, true, false, Some, is_some, refl, subst, sym, ap, ◌∙◌}
+use Rattle.rpm_tool.proofs.Vocabulary.{ask, asked_task, asks_format, inner, task_parts, Undone}
+use Rattle.rpm_command.specs.Asked.{KindIs}
+use Rattle.rpm_command.specs.declared.reading.Kind.{Kind}
 use Rattle.rpm_tool.proofs.Begun.{unforeign}
 use Rattle.rpm_tool.proofs.Faults.{never_cause}
 use Rattle.rpm_tool.proofs.Page.{answered, asked_streams, does_plain, does_files, does_text, does_keyed, does_change, does_nothing, said_disk, said_streams, said_words}
@@ -27,9 +29,11 @@ returns-in-Change-clause-unread g c = λ none. asked_some c.args.words.now c.in-
 pub returns-in-Change-clause-answers : goal.returns-in-Change-clause-answers
 returns-in-Change-clause-answers g c =
     let said = c.change_asked.ensures in
-    let is = c.in-Change.ensures in
-    answered c.in-Ok.ensures.ok (λ still. let both : true ≡ false = sym is ∙ still in absurd cc) said.keeps.counted said.streams.paths said.keeps.goes_on
-    (does_change is said.answers said.empty said.streams.unread)
+    let is : asked_task c.args.words.now c.in-Ok.command.ask ≡ Some (task_parts c.in-Change.task) =
+    (subst (λ (k : Kind). KindIs k c.args.words.now c.in-Ok.command.ask) c.in-Change.is c.in-Ok.ensures.kind).0 in
+    answered c.in-Ok.ensures.ok (λ still. let both : true ≡ false = sym (ap is_some is) ∙ still in absurd cc) said.keeps.counted
+    said.streams.paths said.keeps.goes_on
+    (does_change is (said.answers c.args.words.now) said.empty said.streams.unread)
 
 -- ---- package files
 
@@ -50,8 +54,9 @@ returns-in-Files-clause-unread g c = λ none. asked_some c.args.words.now c.in-O
 pub returns-in-Files-clause-answers : goal.returns-in-Files-clause-answers
 returns-in-Files-clause-answers g c =
     let said = c.print_files-why.ensures in
+    let kind = subst (λ (k : Kind). KindIs k c.args.words.now c.in-Ok.command.ask) c.in-Files.is c.in-Ok.ensures.kind in
     answered c.in-Ok.ensures.ok (λ still. refl) (λ not. refl) said.paths (g.met.D.Disk.follows_refl c.args.disk)
-    (does_files c.in-Files.ensures.1 (record { went = said.went; disk_unread = refl })
+    (does_files kind.1 (record { went = said.went; disk_unread = refl })
     (leaves_none g.D.Disk g.met.D.Disk.follows_refl))
 
 -- ---- a text
@@ -70,8 +75,9 @@ returns-in-Text-clause-unread g c = λ none. asked_some c.args.words.now c.in-Ok
 
 pub returns-in-Text-clause-answers : goal.returns-in-Text-clause-answers
 returns-in-Text-clause-answers g c =
+    let kind = subst (λ (k : Kind). KindIs k c.args.words.now c.in-Ok.command.ask) c.in-Text.is c.in-Ok.ensures.kind in
     answered c.in-Ok.ensures.ok (λ still. refl) (λ not. refl) (λ told. refl) (g.met.D.Disk.follows_refl c.args.disk)
-    (does_text c.in-Text.ensures.3 (record {
+    (does_text kind.3 (record {
       went = c.print_text-why.ensures.went g.E.Sink.tells (g.E.Sink.taken (inner c.args.err.now));
       unread = (refl, refl);
     }) (leaves_none g.D.Disk g.met.D.Disk.follows_refl))
@@ -94,8 +100,9 @@ returns-in-Keyed-clause-unread g c = λ none. asked_some c.args.words.now c.in-O
 pub returns-in-Keyed-clause-answers : goal.returns-in-Keyed-clause-answers
 returns-in-Keyed-clause-answers g c =
     let said = c.answer_keyed-why.ensures in
+    let kind = subst (λ (k : Kind). KindIs k c.args.words.now c.in-Ok.command.ask) c.in-Keyed.is c.in-Ok.ensures.kind in
     answered c.in-Ok.ensures.ok (λ still. refl) (λ not. refl) (λ told. refl) said.goes_on
-    (does_keyed c.in-Keyed.ensures.2 said.keyed refl)
+    (does_keyed kind.2 said.keyed refl)
 
 -- ---- without the index
 
@@ -115,8 +122,9 @@ returns-clause-unread g c = λ none. asked_some c.args.words.now c.in-Ok.ensures
 pub returns-clause-answers : goal.returns-clause-answers
 returns-clause-answers g c =
     let said = c.answer_loaded-why.ensures in
+    let kind = subst (λ (k : Kind). KindIs k c.args.words.now c.in-Ok.command.ask) c.in-Plain.is c.in-Ok.ensures.kind in
     answered c.in-Ok.ensures.ok (λ still. refl) (λ not. refl) (λ told. refl) said.looks.goes_on
-    (does_plain c.in-Plain.ensures.1 c.in-Plain.ensures.2 c.in-Plain.ensures.0 c.in-Plain.ensures.4
+    (does_plain kind.1 kind.2 kind.0 kind.4
     (λ told. record { went = said.went told; reads = said.reads told }) said.looks refl)
 
 -- ---- nothing that could be read

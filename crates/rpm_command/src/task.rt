@@ -1,9 +1,9 @@
 //! What a command changes, by its words.
 
 ghost use Rattle.std.specs.Prelude.{◌≡◌, ℕ, ◌+◌, ◌<◌, ◌≤◌, ◌^◌, [], ◌∷◌, ◌++◌, length, map, IfOk, OnOk};
-ghost use Rattle.rpm_commit.specs.Prelude.{asked_task, filter_map, IsCountable, IsCommandSound, number, numbers_asked, replacing_task, task_parts, word_at};
+ghost use Rattle.rpm_command.specs.Prelude.{filter_map, IsCommandSound, number, number_asked, numbers_asked, Replacing, slice_index, task_parts, texts_asked, word_at};
 
-use rpm_words::{Ask, Mode, Words, number_of};
+use rpm_words::{Ask, Words, number_of};
 use std::alloc::{AllocError, Global};
 
 /// What a command changes, with what it is asked.
@@ -40,7 +40,7 @@ fn push_number(numbers: &mut Vec<u32>, text: &str) -> Result<(), AllocError>
 }
 
 /// The arguments that are numbers: all, where the words break no rule.
-fn numbers_of(alloc: Global, words: &Words, ask: &Ask) -> Result<Vec<u32>, AllocError>
+pub(crate) fn numbers_of(alloc: Global, words: &Words, ask: &Ask) -> Result<Vec<u32>, AllocError>
     ensures numbers { IfOk result (λ v. v.items ≡ numbers_asked words.now ask.now) }
     ensures few { IfOk result (λ v. length v.items < 2 ^ 32) }
 {
@@ -52,8 +52,12 @@ fn numbers_of(alloc: Global, words: &Words, ask: &Ask) -> Result<Vec<u32>, Alloc
 }
 
 /// The texts of the arguments.
-fn texts_of<'a>(alloc: Global, words: &'a Words, ask: &Ask) -> Result<Vec<&'a str>, AllocError>
-    ensures texts { IfOk result (λ v. map (λ text. text.now) v.items ≡ map (word_at words.now) ask.now.arguments) }
+pub(crate) fn texts_of<'a>(
+    alloc: Global,
+    words: &'a Words,
+    ask: &Ask,
+) -> Result<Vec<&'a str>, AllocError>
+    ensures texts { IfOk result (λ v. map (λ text. text.now) v.items ≡ texts_asked words.now ask.now) }
     ensures few { IfOk result (λ v. length v.items < 2 ^ 32) }
 {
     let mut texts = Vec::new(alloc);
@@ -63,35 +67,15 @@ fn texts_of<'a>(alloc: Global, words: &'a Words, ask: &Ask) -> Result<Vec<&'a st
     Ok(texts)
 }
 
-/// Puts the package file that the second argument names in place of the package of the first, a number, where the
-/// words break no rule.
-fn replacing_of<'a>(words: &'a Words, ask: &Ask) -> Task<'a>
-    ensures asked { task_parts result ≡ replacing_task words.now ask.now.arguments }
-    ensures countable { IsCountable (task_parts result) }
+/// The number that the first argument is, and the second: the package whose place the package file of a path takes.
+pub(crate) fn replacing_of<'a>(words: &'a Words, ask: &Ask) -> Task<'a>
+    requires sound { IsCommandSound words.now ask.now }
+    requires two { length ask.now.arguments ≡ 2 }
+    ensures { task_parts result ≡ Replacing (number_asked words.now ask.now 0) (word_at words.now (slice_index ask.now.arguments 1)) }
 {
-    if ask.arguments() != 2 {
-        return Task::Make;
-    }
     let number = number_of(words.text_at(ask.argument(0))).unwrap_or(0);
     Task::Replace {
         number,
         path: words.text_at(ask.argument(1)),
-    }
-}
-
-/// What a command changes that changes anything.
-pub fn task_of<'a>(alloc: Global, words: &'a Words, ask: &Ask) -> Result<Task<'a>, AllocError>
-    requires sound { IsCommandSound words.now ask.now }
-    ensures asked { IfOk result (λ task. task_parts task ≡ asked_task words.now ask.now) }
-    ensures countable { IfOk result (λ task. IsCountable (task_parts task)) }
-{
-    match ask.mode() {
-        Mode::Addpkg => Ok(Task::Add(texts_of(alloc, words, ask)?)),
-        Mode::Replacepkg => Ok(replacing_of(words, ask)),
-        Mode::Erasepkg => Ok(Task::Erase(numbers_of(alloc, words, ask)?)),
-        Mode::Importdb => Ok(Task::Import),
-        Mode::Rebuilddb => Ok(Task::Rebuild),
-        Mode::Exercise(headers) => Ok(Task::Exercise(headers)),
-        _ => Ok(Task::Make),
     }
 }

@@ -1,6 +1,6 @@
 use Rattle.std.proofs.Common.{◌≡◌, ◌≤◌, ◌++◌, map, length, drop}
-use Rattle.rpm_commit.proofs.Vocabulary.{word_at}
-use Rattle.rpm_commit.proofs.task.texts_of.Given as goal
+use Rattle.rpm_command.proofs.Vocabulary.{word_at}
+use Rattle.rpm_command.proofs.task.texts_of.Given as goal
 
 abbrev pub invariant-loop-k : goal.invariant-loop-k
 invariant-loop-k l = record {

@@ -1,6 +1,6 @@
 use Rattle.std.proofs.Common.{◌≡◌, ◌≤◌, ◌++◌, length, drop}
-use Rattle.rpm_commit.proofs.Vocabulary.{filter_map, number, word_at}
-use Rattle.rpm_commit.proofs.task.numbers_of.Given as goal
+use Rattle.rpm_command.proofs.Vocabulary.{filter_map, number, word_at}
+use Rattle.rpm_command.proofs.task.numbers_of.Given as goal
 
 abbrev pub invariant-loop-k : goal.invariant-loop-k
 invariant-loop-k l = record {

@@ -1,9 +1,9 @@
 use Rattle.std.proofs.Common.{◌≡◌, ℕ, ◌+◌, List, [], ◌∷◌, ◌++◌, Option, Some, drop, sym, ap, ◌∙◌, append_assoc, arith}
 use Rattle.std.specs.Prelude.{slice_get}
-use Rattle.rpm_commit.proofs.Vocabulary.{filter_map, number, word_at}
+use Rattle.rpm_command.proofs.Vocabulary.{filter_map, number, word_at}
 use Rattle.std.proofs.lemmas.List.Elements.{filter_map-append}
 use Rattle.rpm_effects.specs.laws.Parts.{drop_get}
-use Rattle.rpm_commit.proofs.task.numbers_of.Goals as goal
+use Rattle.rpm_command.proofs.task.numbers_of.Goals as goal
 
 -- one more is gone over
 more : (f : ℕ → Option ℕ) (args ns ms all : List ℕ) (k w : ℕ) → slice_get args k ≡ Some w → ms ≡ ns ++ filter_map f (w ∷ [])

@@ -1,0 +1,7 @@
+pub mod Answers
+pub mod Asked
+pub mod Prelude
+pub mod Tasks
+pub mod Texts
+pub mod inner
+pub mod laws

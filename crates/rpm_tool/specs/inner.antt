@@ -1,0 +1,2 @@
+-- What the functions below `run` say.
+pub mod Words
