@@ -1,5 +1,5 @@
--- What command lines ask to change: by it `plain`, `changes`, `empty`, `looks` and `shelf_unread` of the page (`rpm_tool`, Theorem.antt)
--- tell commands apart.
+-- What command lines ask to change: by it `plain`, `changes`, `empty`, `looks` and `shelf_unread` of the page
+-- (`rpm_tool`, Theorem.antt) tell commands apart.
 use Rattle.std.specs.Prelude.{ℕ, ◌<◌, ◌≤◌, ◌^◌, List, length, map, unwrap_or, Option, Some, None, slice_index}
 use Rattle.std.specs.List.{filter_map}
 use Rattle.rpm_words.specs.declared.ask.Mode.TheVariants.{Addpkg, Replacepkg, Erasepkg, Initdb, Importdb, Rebuilddb, Exercise}

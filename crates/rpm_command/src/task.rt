@@ -1,7 +1,7 @@
 //! What a command changes, by its words.
 
 ghost use Rattle.std.specs.Prelude.{◌≡◌, ℕ, ◌+◌, ◌<◌, ◌≤◌, ◌^◌, [], ◌∷◌, ◌++◌, length, map, IfOk, OnOk};
-ghost use Rattle.rpm_command.specs.Prelude.{filter_map, IsCommandSound, number, number_asked, numbers_asked, Replacing, slice_index, task_parts, texts_asked, word_at};
+ghost use Rattle.rpm_command.specs.Prelude.{filter_map, IsCommandSound, number, argument_number, numbers_asked, Replacing, slice_index, task_parts, texts_asked, word_at};
 
 use rpm_words::{Ask, Words, number_of};
 use std::alloc::{AllocError, Global};
@@ -71,7 +71,7 @@ pub(crate) fn texts_of<'a>(
 pub(crate) fn replacing_of<'a>(words: &'a Words, ask: &Ask) -> Task<'a>
     requires sound { IsCommandSound words.now ask.now }
     requires two { length ask.now.arguments ≡ 2 }
-    ensures { task_parts result ≡ Replacing (number_asked words.now ask.now 0) (word_at words.now (slice_index ask.now.arguments 1)) }
+    ensures { task_parts result ≡ Replacing (argument_number words.now ask.now 0) (word_at words.now (slice_index ask.now.arguments 1)) }
 {
     let number = number_of(words.text_at(ask.argument(0))).unwrap_or(0);
     Task::Replace {

@@ -35,7 +35,8 @@ pub use Rattle.rpm_commit.specs.laws.Words.{HasStore, ReachesOn, StoresOn}
 pub use Rattle.rpm_commit.specs.Run.{ran}
 pub use Rattle.rpm_command.specs.Tasks.{task_parts, TaskParts}
 pub use Rattle.rpm_commit.specs.Tasks.{changes_index, is_anew, needs_none, reads_shelf, task_course}
-pub use Rattle.rpm_commit.specs.Working.{done_why, ended_as, TransactionEnding, exercise_ended, IsShut, OpensBy, OpensIn, UncommittedProgress, why_of, WorkBy, WorkOnStore}
+pub use Rattle.rpm_commit.specs.Working.{done_why, ended_as, TransactionEnding, exercise_ended, IsShut, OpensBy, OpensIn, UncommittedProgress, why_of}
+pub use Rattle.rpm_commit.specs.Working.{WorkBy, WorkOnStore}
 pub use Rattle.rpm_commit.specs.Working.{Work}
 pub use Rattle.rpm_commit.specs.Stages.{FoundStore, OpensOn, Streams, WorksOn}
 pub use Rattle.rpm_db.specs.Changes.{apply, Change, Says}

@@ -199,13 +199,15 @@ gathers_asked d a b st after index stopped owed more was idx result asked own ro
 -- ---- a change on its own
 
 -- where its rows only go, an index in order has room for those that are left
-fits_alone : (file idx : Units) (st : Store) (index : hindex.IndexState) (asked : PackageChange) → hindex.is_in_order index ≡ true → hindex.KeepsIndexValue idx index
+fits_alone : (file idx : Units) (st : Store) (index : hindex.IndexState) (asked : PackageChange) → hindex.is_in_order index ≡ true
+    → hindex.KeepsIndexValue idx index
     → HasRows (packages file st) idx → FitsAsked asked (units_for (rows (packages_of (blobs_asked asked file st))))
 fits_alone file idx st index (request.Put n view) order keeps has = tt
 fits_alone file idx st index (request.Erase n) order keeps has =
     omega (arith, units_ordered idx index (packages file st) order keeps has, units_erased file st n)
 
-module _ {D : Type 0} (d : disk.Ghosts D) (a : D) (st : Store) (index : hindex.IndexState) (owed : RowChange) (none : owed ≡ no_row_changes) (asked : PackageChange)
+module _ {D : Type 0} (d : disk.Ghosts D) (a : D) (st : Store) (index : hindex.IndexState) (owed : RowChange) (none : owed ≡ no_row_changes)
+    (asked : PackageChange)
     (own : IsOwnHeader asked) where
   abbrev file : Units
   file = (d.files a).pkg

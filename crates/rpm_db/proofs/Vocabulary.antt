@@ -8,7 +8,8 @@ pub use Rattle.rpm_db.specs.Database.{KeepsUnits, store_of, without_index}
 pub use Rattle.rpm_db.specs.Frame.{Runs, StaysBetween}
 pub use Rattle.rpm_db.specs.laws.FromOne.{none_stored}
 pub use Rattle.rpm_db.specs.Gathering.{with_rows}
-pub use Rattle.rpm_db.specs.Gathering.{Balances, due, due_units, GatheredChange, Gathers, IsGathering, IsOrdered, no_row_changes, Owes, OwesOn, resumed_database, sealed_in}
+pub use Rattle.rpm_db.specs.Gathering.{Balances, due, due_units, GatheredChange, Gathers, IsGathering, IsOrdered, no_row_changes, Owes, OwesOn}
+pub use Rattle.rpm_db.specs.Gathering.{resumed_database, sealed_in}
 pub use Rattle.rpm_db.specs.Inits.{IsEmpty, IsEmptyStill}
 pub use Rattle.rpm_db.specs.Lawful.{Agrees, AreLawful, HasRows, is_current_at, IsIndexOf, IsLawful, IsLawfulStill, IsOfRows, IsUnsealed, IsWholeIndex, Remade}
 pub use Rattle.rpm_db.specs.Lawful.{StaysLawful}
@@ -17,7 +18,8 @@ pub use Rattle.rpm_db.specs.laws.Own.{header-own}
 pub use Rattle.rpm_db.specs.laws.PackageLaws.{get-packages, is_there}
 pub use Rattle.rpm_db.specs.Reaches.{added_rows, dropped_rows, found_rows, ReachesMade}
 pub use Rattle.rpm_db.specs.laws.Parts.{added_units}
-pub use Rattle.rpm_db.specs.Refusals.{AddAnswer, BadCause, BadIndexIs, EraseCause, EraseAnswer, FullCause, FullIndexIs, is_stopping, IsOfStoreErasing, IsOfIndex}
+pub use Rattle.rpm_db.specs.Refusals.{AddAnswer, BadCause, BadIndexIs, EraseCause, EraseAnswer, FullCause, FullIndexIs, is_stopping, IsOfStoreErasing}
+pub use Rattle.rpm_db.specs.Refusals.{IsOfIndex}
 pub use Rattle.rpm_db.specs.Refusals.{IsOfReading}
 pub use Rattle.rpm_db.specs.Refusals.{IsRead, IsRefusal, LaterCause, LaterIs, PutAnswer, PutsHeader, WholeCause}
 pub use Rattle.rpm_db.specs.Room.{next_store, RoomCause}

@@ -230,7 +230,8 @@ pub fn gather_rows<D: Disk>(
     requires order { hindex.is_in_order index.now ≡ true }
     requires keeps { IsTrue D.tells → hindex.KeepsIndexValue (D.files disk.old).idx index.now }
     ensures gathered { OnOk result (IsTrue D.tells → owed.new ≡ owed_with request.entry (D.files disk.old).pkg store.now owed.old) }
-    ensures takes { IsTrue D.tells → TakesRows D.Disk disk.old (owed_with request.entry (D.files disk.old).pkg store.now owed.old) (FitsAsked request.entry) result }
+    ensures takes { IsTrue D.tells → TakesRows D.Disk disk.old
+        (owed_with request.entry (D.files disk.old).pkg store.now owed.old) (FitsAsked request.entry) result }
     ensures plan { IfOk result (IsForeseen D.Disk disk.old index.now (owed_with request.entry (D.files disk.old).pkg store.now owed.old) ahead) }
     ensures kinds { IfErr result IsOfIndex }
     ensures aside { ahead ≡ false → IfErr result (IsOfAside request.entry) }

@@ -16,7 +16,8 @@ use std::alloc::Global;
 fn empty_index<D: Disk>(alloc: Global, disk: &mut D) -> Result<Hindex, RewriteFault>
     ensures room { (needed : ℕ) → result ≢ Err (RewriteFault.IndexFull needed) }
     ensures empty { IfOk result (IsEmptyIndex D.Disk disk.old disk.new) }
-    ensures refused { IfErr result (λ e. IsRebuildRefused e → (IsTrue D.tells → D.files disk.new ≡ D.files disk.old) × (D.moment disk.new ≡ D.moment disk.old)) }
+    ensures refused { IfErr result (λ e. IsRebuildRefused e → (IsTrue D.tells → D.files disk.new ≡ D.files disk.old)
+        × (D.moment disk.new ≡ D.moment disk.old)) }
     ensures units { D.bytes_read disk.new Idx ≤ D.bytes_read disk.old Idx + 32 }
     ensures unread { D.bytes_read disk.new Pkg ≤ D.bytes_read disk.old Pkg }
     ensures runs { Runs D.Disk Remade disk.old disk.new }

@@ -146,9 +146,11 @@ pub fn change_store<D: Disk>(
     ensures made { 1 ≤ store.new.pages }
     ensures done { OnOk result (IsPutAside D.Disk disk.new store.old store.new
         (blobs_asked request.entry (D.files disk.old).pkg store.old) (field_for (number_asked request.entry) store.old)) }
-    ensures sums { OnOk result (IsTrue D.tells → KeepsSums (number_for (number_asked request.entry) store.old) (D.files disk.old).pkg (D.files disk.new).pkg store.old store.new) }
+    ensures sums { OnOk result (IsTrue D.tells → KeepsSums (number_for (number_asked request.entry) store.old)
+        (D.files disk.old).pkg (D.files disk.new).pkg store.old store.new) }
     ensures gathered { OnOk result (IsTrue D.tells → owed.new ≡ owed_with request.entry (D.files disk.old).pkg store.old owed.old) }
-    ensures takes { IsTrue D.tells → TakesRows D.Disk disk.old (owed_with request.entry (D.files disk.old).pkg store.old owed.old) (FitsAsked request.entry) result }
+    ensures takes { IsTrue D.tells → TakesRows D.Disk disk.old
+        (owed_with request.entry (D.files disk.old).pkg store.old owed.old) (FitsAsked request.entry) result }
     ensures plan { IfOk result (IsForeseen D.Disk disk.old index.now (owed_with request.entry (D.files disk.old).pkg store.old owed.old) ahead) }
     ensures aside { ahead ≡ false → IfErr result (IsOfAside request.entry) }
     ensures end { OnOk result (IsTrue D.tells → EndsAsked request.entry store.new (D.files disk.old).pkg (D.files disk.new).pkg) }
@@ -197,7 +199,8 @@ pub fn change_both<D: Disk>(
     ensures done { OnOk result (IsDone D.Disk disk.old disk.new store.old store.new index.new
         (blobs_asked request.entry (D.files disk.old).pkg store.old) (field_for (number_asked request.entry) store.old)
         (index.old.units + live_of (rows_asked request.entry store.old))) }
-    ensures sums { OnOk result (IsTrue D.tells → KeepsSums (number_for (number_asked request.entry) store.old) (D.files disk.old).pkg (D.files disk.new).pkg store.old store.new) }
+    ensures sums { OnOk result (IsTrue D.tells → KeepsSums (number_for (number_asked request.entry) store.old)
+        (D.files disk.old).pkg (D.files disk.new).pkg store.old store.new) }
     ensures index { IndexIs D.Disk disk.old (packages (D.files disk.old).pkg store.old)
         (old_rows (number_asked request.entry) (packages (D.files disk.old).pkg store.old))
         (units_for (rows (packages_of (blobs_asked request.entry (D.files disk.old).pkg store.old)))) result }

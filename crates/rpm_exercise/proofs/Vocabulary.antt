@@ -35,7 +35,8 @@ pub use Rattle.rpm_db.specs.State.{above, Package, State}
 pub use Rattle.rpm_db.specs.declared.change_fault.ChangeFault.{ChangeFault}
 pub use Rattle.rpm_db.specs.declared.netting.RowChange.{RowChange}
 pub use Rattle.rpm_exercise.specs.Endings.{IsOfAsking, IsOfExercise, IsOfQuestion, stop_of}
-pub use Rattle.rpm_exercise.specs.Exercised.{capability_line, capability_lines, capability_named, count_line, digest_line, exercise, exported_bytes, picked_count}
+pub use Rattle.rpm_exercise.specs.Exercised.{capability_line, capability_lines, capability_named, count_line, digest_line, exercise, exported_bytes}
+pub use Rattle.rpm_exercise.specs.Exercised.{picked_count}
 unfoldable pub use Rattle.rpm_exercise.specs.Exercised.{summary}
 pub use Rattle.rpm_exercise.specs.Ready.{ExerciseQuestion, GathersThrough, IsStop}
 pub use Rattle.rpm_exercise.specs.Rounds.{changes_after, IsOfChanges, course_of_changes, round_changes, round_turn}

@@ -8,7 +8,8 @@ pub use Rattle.rpm_graph.specs.declared.search.Search.{Search}
 pub use Rattle.rpm_graph.specs.inner.Listings.{AreFalling, AreLeast, ArePlaced, IsBegun, IsFirstUnlisted, IsLeastReady, IsListedNow, IsListing, IsReadyOrWaits}
 pub use Rattle.rpm_graph.specs.inner.Listings.{IsListable, IsUnderway, listed_at, unlisted_count}
 pub use Rattle.rpm_graph.specs.inner.Rows.{AreLeastNumbers, GainEnds, HaveEdges, HaveEnds, HaveMembers, least, with_link}
-pub use Rattle.rpm_graph.specs.inner.Searches.{AreWithin, Follows, IsEdge, IsFrontOfRoots, IsLastRoot, IsLowered, IsMarked, IsNoHigher, IsOnPath, IsSearch, IsSplit, KeepsSeen}
+pub use Rattle.rpm_graph.specs.inner.Searches.{AreWithin, Follows, IsEdge, IsFrontOfRoots, IsLastRoot, IsLowered, IsMarked, IsNoHigher, IsOnPath}
+pub use Rattle.rpm_graph.specs.inner.Searches.{IsSearch, IsSplit, KeepsSeen}
 pub use Rattle.rpm_graph.specs.inner.Searches.{link, link_at, NoneWaits, row_lists, Searches, unseen, unseen_count, work, work_left}
 pub use Rattle.std.specs.BTreeMap.{is_at}
 pub use Rattle.std.specs.BTreeMap.Range.{IsLtBy}

@@ -53,7 +53,8 @@ pub use Rattle.rpm_outside.specs.laws.History.{torn_file_none, torn_file_whole}
 pub use Rattle.rpm_outside.specs.laws.Leaves.{changed_after_look, sync_leaves, then_back, then_look}
 pub use Rattle.rpm_outside.specs.laws.LogLaws.{blank_closed, closing, entries_done, entries_log, first_unit, heads_not_log, log_not_log, NotLog}
 pub use Rattle.rpm_outside.specs.laws.LogLaws.{reopened_closed, reopened_open, reopened_within, torn_first, unlogged_entries, within_log}
-pub use Rattle.rpm_outside.specs.laws.LogRules.{log_after, after-open, after-push, after-wrong, closed_blank, entry_units, commit_record_last, commit_record_right, commit_record_wrong}
+pub use Rattle.rpm_outside.specs.laws.LogRules.{log_after, after-open, after-push, after-wrong, closed_blank, entry_units, commit_record_last}
+pub use Rattle.rpm_outside.specs.laws.LogRules.{commit_record_right, commit_record_wrong}
 pub use Rattle.rpm_outside.specs.laws.LogRules.{head_parts, head_past, heads_done, heads_more, heads_right, heads_wrong, none_closed}
 pub use Rattle.rpm_outside.specs.laws.LogWriting.{entries_end, entries_kept, entries_long, entries_push, entries_then, opened_is, word_full}
 pub use Rattle.rpm_outside.specs.laws.Looking.{looks_at_none, looks_at_then, read_none}

@@ -41,7 +41,8 @@ pub use Rattle.rpm_hindex.specs.declared.row_search.Start.{Start}
 pub use Rattle.rpm_hindex.specs.declared.rows.RowHead.{RowHead}
 pub use Rattle.rpm_hindex.specs.declared.spots.Spot.{Spot}
 pub use Rattle.rpm_hindex.specs.inner.Changes.{AddsRows, CanGo, index_after, CountsLess, DropOfOne, HasFault, HasGone, HasLess, HasNoFault, HasWord, if_kept}
-pub use Rattle.rpm_hindex.specs.inner.Changes.{index_with, is_kept, IsBadSoFar, IsBehind, IsChainFault, IsWithoutDropped, IsFreshChange, IsHonest, IsOther, IsScratchOf}
+pub use Rattle.rpm_hindex.specs.inner.Changes.{index_with, is_kept, IsBadSoFar, IsBehind, IsChainFault, IsWithoutDropped, IsFreshChange, IsHonest}
+pub use Rattle.rpm_hindex.specs.inner.Changes.{IsOther, IsScratchOf}
 pub use Rattle.rpm_hindex.specs.inner.Changes.{IsShort, IsStarted, IsTooLarge, IsWithout, IsWorkOf, kept_below, kept_in, kept_of, patch_of, Puts, PutsOne}
 pub use Rattle.rpm_hindex.specs.inner.Changes.{PutsWithin, SetsBucket, SetsNext, Stays, unit_after, Unlinks}
 pub use Rattle.rpm_hindex.specs.inner.Drafts.{draft_index, HasDraftUnits, IsDraft, IsDraftOf, IsIndexMade}
@@ -51,7 +52,8 @@ pub use Rattle.rpm_hindex.specs.inner.Ongoing.{IsDropFault}
 pub use Rattle.rpm_hindex.specs.inner.Packed.{AreKeysPacked, no_head, row_in, packed_rows}
 pub use Rattle.rpm_hindex.specs.inner.Records.{HasBuckets}
 pub use Rattle.rpm_hindex.specs.laws.RowLaws.{live-append, once, same_is, times-append, times-cons, times_none, times_one, without}
-pub use Rattle.rpm_hindex.specs.inner.Spots.{HasNone, IsRecordAhead, IsRowFound, IsFoundFrom, IsFront, IsRecordHead, IsHeadWithin, IsLastPlace, IsLinked, IsMet, IsMissing}
+pub use Rattle.rpm_hindex.specs.inner.Spots.{HasNone, IsRecordAhead, IsRowFound, IsFoundFrom, IsFront, IsRecordHead, IsHeadWithin, IsLastPlace}
+pub use Rattle.rpm_hindex.specs.inner.Spots.{IsLinked, IsMet, IsMissing}
 pub use Rattle.rpm_hindex.specs.inner.Spots.{IsNextUnit, IsPath, IsSoundSpot, IsSpot, IsWithin, OnWay, PathCosts, SkipsTo}
 pub use Rattle.rpm_hindex.specs.inner.Starts.{AreStarts, IsStart, StandsWithin, StandWithin}
 pub use Rattle.rpm_outside.specs.Changes.{IsSame}

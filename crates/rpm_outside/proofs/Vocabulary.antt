@@ -26,7 +26,8 @@ pub use Rattle.rpm_outside.specs.declared.steps.Pick.{Pick}
 pub use Rattle.rpm_outside.specs.declared.steps.Pick.TheVariants.{Mixed, New, Old}
 pub use Rattle.rpm_outside.specs.declared.steps.Step.{Step}
 pub use Rattle.rpm_outside.specs.declared.steps.Step.TheVariants.{Synced, Wrote}
-pub use Rattle.rpm_outside.specs.inner.Copies.{AddsCopy, HoldCopies, is_loose, IsCopy, is_loose_after_write, NoneLoose, SyncsFile, StartsFrom, is_loose_after_sync}
+pub use Rattle.rpm_outside.specs.inner.Copies.{AddsCopy, HoldCopies, is_loose, IsCopy, is_loose_after_write, NoneLoose, SyncsFile, StartsFrom}
+pub use Rattle.rpm_outside.specs.inner.Copies.{is_loose_after_sync}
 pub use Rattle.rpm_outside.specs.laws.Cuts.{bytes_of_more, length-cut_up, units_of-bytes_of}
 pub use Rattle.rpm_outside.specs.laws.FileLaws.{file_of-with, other_file, same_files, with_itself}
 pub use Rattle.rpm_outside.specs.laws.Flushed.{flushed, handed, stopped}

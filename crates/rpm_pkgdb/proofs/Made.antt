@@ -144,7 +144,8 @@ module _ (file : Units) (st : Store) (m : IsMade file st) where
   from_made =
       let some : not (list_any is_nonzero (unit_at file 0)) ≡ false = ap not (not_blank (unit_at file 0) m.head.magic) in
       let right : head_reason (length file) (unit_at file 0) ≡ None = head_right (length file) st.generation st.pages (unit_at file 0) m.lawful m.head in
-      rw (some, right) (subst (λ (pages : ℕ). store_of_pages pages file ≡ Ok (in_file st)) (sym m.head.pages_are) (rw (store_of_pages, no_fault) (ap Ok same_store)))
+      rw (some, right) (subst (λ (pages : ℕ). store_of_pages pages file ≡ Ok (in_file st)) (sym m.head.pages_are)
+      (rw (store_of_pages, no_fault) (ap Ok same_store)))
 
 reason_pages : (file : Units) (st : Store) (reason : Option Reason) → head_reason (length file) (unit_at file 0) ≡ reason
     → made_or_damaged reason file ≡ Ok st → 1 ≤ st.pages

@@ -11,7 +11,7 @@ const SIZE: u64 = 1024;
 const MOST: usize = 2048;
 
 /// How many reads come before the first page: who reads less holds none.
-const FEW: u32 = 8_000;
+const FEW: u32 = 11_000;
 
 /// A page: where it begins in the file, and as many bytes from there as the file had.
 #[derive(Drop)]

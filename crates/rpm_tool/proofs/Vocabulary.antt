@@ -68,7 +68,8 @@ pub use Rattle.rpm_tool.specs.Requests.{asked_reaches, blocks_cost, RequestProgr
 pub use Rattle.rpm_tool.specs.inner.Words.{CauseIs, FullByUnits, has_index, keyed_to, KeyedProgress, OnUsable, PlainProgress, read_to, UnlessFull}
 pub use Rattle.rpm_tool.specs.Keyed.{BadIs, IndexFullIs, HasRoom, IsAtRest, IsUsable}
 pub use Rattle.rpm_tool.specs.Keyed.{IsUsableDatabase, keyed_cost, KeyedAnswer}
-pub use Rattle.rpm_tool.specs.Theorem.{Answers, AnswersChange, AnswersKeyed, AnswersOfFiles, AnswersPlain, AnswersText, AnswersCommand, ran, Run, setting_at, Setting}
+pub use Rattle.rpm_tool.specs.Theorem.{Answers, AnswersChange, AnswersKeyed, AnswersOfFiles, AnswersPlain, AnswersText, AnswersCommand, ran, Run}
+pub use Rattle.rpm_tool.specs.Theorem.{setting_at, Setting}
 pub use Rattle.rpm_version.specs.Capability.{capability, CapabilityParts}
 pub use Rattle.rpm_version.specs.declared.capability.BadCapability.{BadCapability}
 pub use Rattle.rpm_words.specs.Ask.{AskParts, IsFit}

@@ -44,7 +44,8 @@ pub use Rattle.rpm_words.specs.declared.words.Span.{Span}
 pub use Rattle.rpm_words.specs.inner.Folder.{folder_behind, IsSpelled}
 pub use Rattle.rpm_words.specs.laws.Given.{command_word, fault_or, first_told, fit_asked}
 pub use Rattle.rpm_words.proofs.Numbered.{numbers_asked}
-pub use Rattle.rpm_words.proofs.Pieces.{argument_said, exercise_said, format_printed, has_equals, is_refused, misplaced_said, option_at, printed_said, within_exercise}
+pub use Rattle.rpm_words.proofs.Pieces.{argument_said, exercise_said, format_printed, has_equals, is_refused, misplaced_said, option_at, printed_said}
+pub use Rattle.rpm_words.proofs.Pieces.{within_exercise}
 pub use Rattle.rpm_words.specs.inner.Spellings.{as_spellings}
 unfoldable pub use Rattle.rpm_words.specs.inner.Spellings.{switch_in}
 pub use Rattle.rpm_words.specs.inner.Steps.{inline, letters, lone, no_mode, no_value, seen_with}

@@ -10,8 +10,8 @@ abbrev pub texts_asked : List (List ℕ) → AskParts → List (List ℕ)
 texts_asked words a = map (word_at words) a.arguments
 
 -- the number that an argument is
-abbrev pub number_asked : List (List ℕ) → AskParts → ℕ → ℕ
-number_asked words a k = unwrap_or (number (word_at words (slice_index a.arguments k))) 0
+abbrev pub argument_number : List (List ℕ) → AskParts → ℕ → ℕ
+argument_number words a k = unwrap_or (number (word_at words (slice_index a.arguments k))) 0
 
 -- the numbers among the arguments
 abbrev pub numbers_asked : List (List ℕ) → AskParts → List ℕ
