@@ -18,8 +18,10 @@ both_equal Greater p is = absurd cc
 
 same_need : (a b : Requirement) → requirement_order a b ≡ Equal → need_of a ≡ need_of b
 same_need a b is =
+    let marked = both_equal (nat_cmp a.mark b.mark) (ordering_then (slice_cmp nat_cmp a.name.items b.name.items)
+    (ordering_then (nat_cmp a.flags b.flags) (slice_cmp nat_cmp a.version.items b.version.items))) is in
     let first = both_equal (slice_cmp nat_cmp a.name.items b.name.items)
-    (ordering_then (nat_cmp a.flags b.flags) (slice_cmp nat_cmp a.version.items b.version.items)) is in
+    (ordering_then (nat_cmp a.flags b.flags) (slice_cmp nat_cmp a.version.items b.version.items)) marked.1 in
     let second = both_equal (nat_cmp a.flags b.flags) (slice_cmp nat_cmp a.version.items b.version.items) first.1 in
     λ i. record {
       name = exact_bytes a.name.items b.name.items first.0 i;

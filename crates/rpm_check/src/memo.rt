@@ -4,13 +4,16 @@ ghost use Rattle.std.specs.Prelude.{◌≡◌, IfOk, IfSome};
 ghost use Rattle.rpm_check.specs.Prelude.{FinMap, is_met, Knows, nat_cmp, need_of, needed_in, Package};
 
 use crate::looking::Sources;
+use crate::names::mark_of;
 use rpm_tags::Dependency;
 use std::alloc::{AllocError, Global};
 use std::collections::BTreeMap;
 
-/// A requirement of its own: a name, flags and a version.
+/// A requirement of its own: a name, flags and a version. It stands in order of its name's mark first, so that few names are
+/// compared byte by byte.
 #[derive(PartialEq, Eq, PartialOrd, Ord, Drop)]
 pub struct Requirement {
+    mark: u32,
     name: Vec<u8>,
     flags: u64,
     version: Vec<u8>,
@@ -21,6 +24,7 @@ impl Requirement {
         ensures { IfOk result (λ key. need_of key ≡ needed_in needed.now) }
     {
         Ok(Requirement {
+            mark: mark_of(needed.name),
             name: Vec::from_slice(alloc, needed.name)?,
             flags: needed.flags,
             version: Vec::from_slice(alloc, needed.version)?,

@@ -20,7 +20,7 @@ pub struct Names {
 }
 
 /// An even number that a name has, and few other names.
-fn mark_of(name: &[u8]) -> u32 {
+pub(crate) fn mark_of(name: &[u8]) -> u32 {
     let mut mark = 0u32;
     for byte in name {
         mark = mark.wrapping_mul(31).wrapping_add(*byte as u32);

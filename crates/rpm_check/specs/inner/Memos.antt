@@ -20,11 +20,11 @@ use Rattle.rpm_check.specs.inner.Offers.{KnowsSources}
 abbrev pub need_of : Requirement → Need
 need_of key = record { name = key.name.items; flags = key.flags; version = key.version.items }
 
--- requirements stand in order of their names, then of their flags, then of their versions
+-- requirements stand in order of their marks, then of their names, then of their flags, then of their versions
 abbrev pub requirement_order : Requirement → Requirement → Ordering
 requirement_order a b =
-    ordering_then (slice_cmp nat_cmp a.name.items b.name.items)
-    (ordering_then (nat_cmp a.flags b.flags) (slice_cmp nat_cmp a.version.items b.version.items))
+    ordering_then (nat_cmp a.mark b.mark) (ordering_then (slice_cmp nat_cmp a.name.items b.name.items)
+    (ordering_then (nat_cmp a.flags b.flags) (slice_cmp nat_cmp a.version.items b.version.items)))
 
 -- what is known of a requirement is so
 abbrev pub IsRemembered : (Need → Bool) → Memo → Type 0
