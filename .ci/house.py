@@ -111,7 +111,7 @@ def is_verb(name):
     """Whether a name is a bare verb."""
     for small in SMALL:
         stem = name.removesuffix(small) if small else name
-        if stem and (stem in PAST | PRESENT or re.fullmatch(r"[A-Z][a-z]+ed", stem)) and (small == "" or stem != name):
+        if stem and (stem in PAST | PRESENT or re.fullmatch(r"[A-Z][a-z]*[a-df-z]ed", stem)) and (small == "" or stem != name):
             return True
     return False
 

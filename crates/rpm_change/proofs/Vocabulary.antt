@@ -1,18 +1,18 @@
 -- The words of proofs, from one place.
 pub use Rattle.rpm_change.specs.laws.Courses.{add_file, dropped_course, erase_one, import_next, list_course, missing_course, put_found, replacement}
-pub use Rattle.rpm_change.specs.Adding.{add_files, as_installed, GivesInstalled, put_file, replace}
+pub use Rattle.rpm_change.specs.Adding.{add_files, as_installed, GivesInstalled, put_file}
 pub use Rattle.rpm_db.specs.Changes.{change_at}
 pub use Rattle.rpm_effects.specs.Endings.{stop_in}
 pub use Rattle.rpm_effects.specs.Progress.{halt_of}
 pub use Rattle.rpm_change.specs.Erasing.{erase}
 pub use Rattle.rpm_change.specs.Importing.{import_from, import_list, imported_header, place_fails}
-pub use Rattle.rpm_change.specs.Limits.{is_limit, LimitsTurn}
+pub use Rattle.rpm_change.specs.Limits.{LimitsTurn}
 pub use Rattle.rpm_change.specs.Rebuilding.{drop_each, dropped_line, rebuild}
 pub use Rattle.rpm_change.specs.Singles.{GathersOne, HasTarget}
 pub use Rattle.rpm_effects.specs.Steps.{apply_all, bearer, course_of_change, Course, course_of_failure, idle, in_turn, joined_courses, ToErr, whole_step}
 pub use Rattle.rpm_effects.specs.Texts.{absent_line, header_text, refused_line}
 pub use Rattle.rpm_change.specs.Turns.{from_place, ListEnd, HaltOfList, turn, turn_found}
-pub use Rattle.rpm_change.specs.Progress.{IsChangeable, IsOwing, EndStateBy, ProgressInBoth, ProgressOwing}
+pub use Rattle.rpm_change.specs.Progress.{IsOwing, EndStateBy, ProgressInBoth, ProgressOwing}
 pub use Rattle.rpm_effects.specs.Shown.{EndedOnErr, EndedOnOut}
 pub use Rattle.rpm_effects.specs.declared.tally.Halt.{Halt}
 pub use Rattle.rpm_effects.specs.declared.tally.Tally.{Tally}
@@ -24,30 +24,28 @@ pub use Rattle.rpm_change.specs.laws.Handing.{err_is}
 pub use Rattle.rpm_effects.specs.laws.Joins.{err_joins, err_none, err_refused, err_stopped, hand_then, out_gone, out_joins, out_none, out_refused}
 pub use Rattle.rpm_effects.specs.laws.Joins.{out_stopped, took, no_tally}
 pub use Rattle.rpm_change.specs.inner.IndexLaws.{at_index, by_index}
-pub use Rattle.rpm_change.specs.laws.Leaving.{halted_by, left_after, none_by, remade_log, remade_then, then_by, whole_halt}
+pub use Rattle.rpm_change.specs.laws.Leaving.{left_after, none_by, remade_log, remade_then}
 pub use Rattle.rpm_change.specs.laws.LimitLaws.{limits_counted, makes_small}
-pub use Rattle.rpm_change.specs.laws.ReachLaws.{idx_more, reached_anew}
+pub use Rattle.rpm_change.specs.laws.ReachLaws.{reached_anew}
 pub use Rattle.rpm_change.specs.laws.Reading.{looks_run, serving_read}
 pub use Rattle.rpm_change.proofs.Ready.{ready_line}
 pub use Rattle.rpm_change.specs.laws.Single.{add_fault, erase_fault, fault_kind, fault_spent, SingleFaultIs, HasNumber, none_made, one_made, one_refused}
 pub use Rattle.rpm_change.specs.laws.Single.{other_stop, put_fault}
 pub use Rattle.rpm_change.specs.laws.Telling.{told_all, told_none, told_part}
 pub use Rattle.rpm_db.specs.laws.Above.{next_above, none_is, nothing_above}
-pub use Rattle.rpm_db.specs.Changed.{IsReady}
 pub use Rattle.rpm_db.specs.Changes.{Add, Change, Erase, next, Put}
-pub use Rattle.rpm_db.specs.Database.{Database, generation_of, has_failed, is_indexed, IsNext, next_package_number}
+pub use Rattle.rpm_db.specs.Database.{Database, generation_of, is_indexed, IsNext, next_package_number}
 pub use Rattle.rpm_db.specs.Frame.{IsIndexed, packages_in, Runs, state_in}
 pub use Rattle.rpm_db.specs.Database.{store_of}
-pub use Rattle.rpm_db.specs.Gathering.{due, due_units, Gathers, IsGathering, IsLeftSuspended, IsOrdered, HasItsRows, no_row_changes, OwesOn, resumed_database}
-pub use Rattle.rpm_db.specs.Gathering.{sealed_in, suspended_database}
+pub use Rattle.rpm_db.specs.Gathering.{due, Gathers, IsGathering, IsLeftSuspended, OwesOn, resumed_database}
+pub use Rattle.rpm_db.specs.Gathering.{suspended_database}
 pub use Rattle.rpm_db.specs.Lawful.{IsWholeIndex, Remade}
 pub use Rattle.rpm_db.specs.Reaches.{units_needed_after}
-pub use Rattle.rpm_db.specs.Refusals.{AddAnswer, EraseCause, FullCause, IsOfIndex, IsOfReading, WholeCause}
+pub use Rattle.rpm_db.specs.Refusals.{AddAnswer, FullCause, IsOfIndex, WholeCause}
 pub use Rattle.rpm_db.specs.Room.{next_store, RoomCause}
-pub use Rattle.rpm_db.specs.laws.RowLaws.{times_none}
 pub use Rattle.rpm_db.specs.laws.Running.{runs_looks}
 pub use Rattle.rpm_db.specs.Runs.{SameLog}
-pub use Rattle.rpm_db.specs.State.{above, Bad, Good, Package, packages, State}
+pub use Rattle.rpm_db.specs.State.{above, Bad, Good, Package, State}
 pub use Rattle.rpm_db.specs.laws.StateLaws.{next-state}
 pub use Rattle.rpm_db.specs.declared.change_fault.ChangeFault.{ChangeFault}
 pub use Rattle.rpm_db.specs.declared.netting.RowChange.{RowChange}
@@ -60,11 +58,10 @@ pub use Rattle.rpm_file.specs.declared.fault.FileFault.{FileFault}
 pub use Rattle.rpm_file.specs.declared.fault.ListFault.{ListFault}
 pub use Rattle.rpm_file.specs.declared.fault.ListFault.TheVariants.{Short}
 pub use Rattle.rpm_header.specs.Header.{Header, header}
-pub use Rattle.rpm_hindex.specs.Rows.{times}
 pub use Rattle.rpm_outside.specs.Browses.{bytes_left}
 pub use Rattle.rpm_outside.specs.Buffered.{inner}
-pub use Rattle.rpm_outside.specs.Causes.{HasCauseAt, Rose}
-pub use Rattle.rpm_outside.specs.Files.{blank, Files}
+pub use Rattle.rpm_outside.specs.Causes.{HasCauseAt}
+pub use Rattle.rpm_outside.specs.Files.{Files}
 pub use Rattle.rpm_outside.specs.Frame.{OnlyReads}
 pub use Rattle.rpm_outside.specs.Shelves.{bytes_at, Paths}
 pub use Rattle.rpm_outside.specs.declared.buffered.Buffered.{Buffered}

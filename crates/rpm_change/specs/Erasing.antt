@@ -1,5 +1,5 @@
 -- What erasing packages does.
-use Rattle.std.specs.Prelude.{ℕ, List, codes, ◌++◌, decimal, Option, Some, None}
+use Rattle.std.specs.Prelude.{ℕ, List, codes, ◌++◌, decimal, Some, None}
 use Rattle.std.specs.FinMap as finite
 use Rattle.rpm_db.specs.Changes.{Erase}
 use Rattle.rpm_db.specs.State.{State}

@@ -28,11 +28,11 @@ pub use Rattle.rpm_check.specs.inner.Kinds.{offer_order}
 pub use Rattle.rpm_check.specs.inner.Memos.{requirement_order, Knows, KnowsOn, need_of}
 pub use Rattle.rpm_select.specs.Needs.{needed_in}
 pub use Rattle.rpm_check.specs.inner.Nodes.{AreNodesRising, edges_of, node_numbers}
-pub use Rattle.rpm_check.specs.inner.Offers.{AreOffered, given_ranges, hits, is_hit, is_named, KnowsNames, KnowsSources}
+pub use Rattle.rpm_check.specs.inner.Offers.{AreOffered, given_ranges, hits, is_hit, is_named}
 pub use Rattle.rpm_check.specs.inner.Offers.{offer_in, offered_ranges, range_in, range_of}
 pub use Rattle.rpm_check.specs.inner.Offers.{ranges_beside, ranges_given, ranges_in, ranges_read, any_version_of}
 unfoldable pub use Rattle.rpm_check.specs.inner.Offers.{IsOffered}
-pub use Rattle.rpm_check.specs.inner.Picking.{is_some_of}
+pub use Rattle.rpm_select.specs.Picks.{is_some_of}
 pub use Rattle.rpm_check.specs.inner.Rounds.{IsFirst, unmet_at}
 pub use Rattle.rpm_check.specs.inner.Runs.{is_of_standing, IsRunOf}
 pub use Rattle.rpm_db.specs.laws.Above.{all_above_zero, both_true, is_below, next_above, none_below, none_is, nothing_above}
@@ -49,7 +49,6 @@ pub use Rattle.rpm_header.specs.Header.{Header, header}
 pub use Rattle.rpm_header.specs.declared.form.HeaderFault.{HeaderFault}
 pub use Rattle.rpm_outside.specs.Files.{Files, Units}
 pub use Rattle.rpm_outside.specs.Looks.{OnlyReads, OnlyReadsFile}
-pub use Rattle.rpm_outside.specs.declared.disk.File.{File}
 pub use Rattle.rpm_outside.specs.declared.disk.File.TheVariants.{Idx, Pkg}
 pub use Rattle.rpm_select.specs.Candidates.{keys_asked}
 pub use Rattle.rpm_select.specs.Frame.{AsksIndex, AsksPackages}

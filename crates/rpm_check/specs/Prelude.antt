@@ -27,8 +27,8 @@ pub use Rattle.rpm_check.specs.inner.Memos.{Knows, KnowsOn, need_of}
 pub use Rattle.rpm_select.specs.Needs.{needed_in}
 pub use Rattle.rpm_check.specs.inner.Nodes.{AreNodesRising, edges_of, node_numbers}
 pub use Rattle.rpm_check.specs.inner.Offers.{AreOffered, given_ranges, hits, is_hit, KnowsNames, KnowsSources, offer_in}
-pub use Rattle.rpm_check.specs.inner.Offers.{offered_ranges, range_in, ranges_beside}
-pub use Rattle.rpm_check.specs.inner.Picking.{is_some_of}
+pub use Rattle.rpm_check.specs.inner.Offers.{range_in, ranges_beside}
+pub use Rattle.rpm_select.specs.Picks.{is_some_of}
 pub use Rattle.rpm_check.specs.inner.Rounds.{IsFirst, unmet_at}
 pub use Rattle.rpm_check.specs.inner.Runs.{is_of_standing, IsRunOf}
 pub use Rattle.rpm_version.specs.Evr.{evr, evr_order}

@@ -8,6 +8,5 @@ pub mod Memos
 pub mod Nodes
 pub mod Offers
 pub mod Parts
-pub mod Picking
 pub mod Rounds
 pub mod Runs

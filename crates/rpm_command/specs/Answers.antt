@@ -1,5 +1,5 @@
 -- The answers to words that aren't done.
-use Rattle.std.specs.Prelude.{◌≡◌, ◌≢◌, ◌⊎◌, List, [], ◌∷◌, Bool, true, false, Option, Some, Result, Err}
+use Rattle.std.specs.Prelude.{◌≡◌, ◌≢◌, ◌⊎◌, Option, Some, Result, Err}
 use Rattle.rpm_words.specs.declared.fault.WordsFault.{WordsFault}
 use Rattle.rpm_words.specs.declared.fault.WordsKind.TheVariants as kind
 use Rattle.rpm_words.specs.Ask.{AskParts}
@@ -8,11 +8,6 @@ use Rattle.rpm_qfparse.specs.declared.fault.FormatKind.TheVariants as wrong
 use Rattle.rpm_qfparse.specs.Tree.{Tree}
 use Rattle.rpm_effects.specs.declared.answer.Why.{Why}
 use Rattle.rpm_effects.specs.declared.answer.Why.TheVariants as why
-
--- whether a list has anything
-abbrev pub is_some_of : {X : Type 0} → List X → Bool
-is_some_of [] = false
-is_some_of (x ∷ xs) = true
 
 -- an answer that comes only where this holds, and always there, a want of memory aside
 abbrev pub ComesWhere : Why → Why → Type 0 → Type 0

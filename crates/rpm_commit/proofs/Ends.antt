@@ -3,7 +3,7 @@ use Rattle.std.proofs.Common.{◌≡◌, ℕ, Bool, true, Err, refl, sym, ap, �
 use Rattle.std.specs.Prelude.{IsTrue}
 use Rattle.rpm_outside.specs.declared.disk.Disk as disk
 use Rattle.rpm_commit.proofs.Vocabulary.{TransactionEnding, File, Files, images, is_done, is_halt, IsShut, IsSound, KeepsBelow, CrashLeaves, Log, log_state, OnlyReadsFile}
-use Rattle.rpm_commit.proofs.Vocabulary.{reopened, ReopensAs, started, unless_starved, without_log, Why}
+use Rattle.rpm_commit.proofs.Vocabulary.{reopened_files, ReopensAs, started, unless_starved, without_log, Why}
 use Rattle.rpm_effects.specs.declared.answer.Why.TheVariants as why
 use Rattle.rpm_commit.specs.laws.ByEnding.{by_starved}
 use Rattle.rpm_commit.specs.laws.Starved.{starved_is}
@@ -27,7 +27,7 @@ module _ {D : Type 0} (d : disk.Ghosts D) (after : Files) (old new : D) (shut : 
   -- each image at the start is the files before
   as_before : (image : Files) → images d old image → ReopensAs before image
   as_before image is = record {
-    same = ap reopened (shut.durable image is) ∙ shut_stands (d.files old) shut.closed;
+    same = ap reopened_files (shut.durable image is) ∙ shut_stands (d.files old) shut.closed;
     sound = subst IsSound (sym (ap (λ (f : Files). log_state f.log) (shut.durable image is) ∙ shut.closed)) tt;
   }
 

@@ -6,7 +6,7 @@ use Rattle.rpm_commit.proofs.Vocabulary.{Damage, ChangeProgress, ChangeProgressO
 use Rattle.rpm_commit.proofs.Vocabulary.{HasChanges, HasState, HasStore, images, is_anew, is_done_or_fault, is_halt, is_of_lawful, IsAllOrNone}
 use Rattle.rpm_commit.proofs.Vocabulary.{IsLawful, IsLawfulDatabase, IsSound, KeepsLog, LengthsOn, ReachesBy}
 use Rattle.rpm_commit.proofs.Vocabulary.{IsDatabaseMade, IsShut, IsUncommitted, leaves_then, leaves_weaker, CrashLeaves, LimitsBy, Log, log_state, LogIs, LogOn, LogState}
-use Rattle.rpm_commit.proofs.Vocabulary.{is_rebuilt, MayBegin, AnswersChange, at_index, by_index, Outputs, ran, RecoverSays, reopened, ReopensAs}
+use Rattle.rpm_commit.proofs.Vocabulary.{is_rebuilt, MayBegin, AnswersChange, at_index, by_index, Outputs, ran, RecoverSays, reopened_files, ReopensAs}
 use Rattle.rpm_commit.proofs.Vocabulary.{ReopensAsOneOf, rows, RowsFit, Says, IsLawfulAndSameOr, State, state, Store, store, Tally, TaskParts, Through, Units}
 use Rattle.rpm_commit.proofs.Vocabulary.{units_for, units_needed, without_log, Why, why_of, with_file, WorkBy, WorkOnStore, Work}
 use Rattle.rpm_commit.specs.laws.Brokens.{done_unbroken}
@@ -53,10 +53,10 @@ halt_unlogged indexed course files others halts = tt
 
 module _ {D : Type 0} (d : disk.Ghosts D) (words : List (List ℕ)) (task : TaskParts) (course : State → Course) (old last final : D) (log : Units) (new : Files)
     (before now : Outputs) (here : images d old (d.files old)) (finished : Bool) (says : RecoverSays (log_state (d.files old).log) (Ok finished))
-    (run : CrashLeaves d old last (ReopensAsOneOf (images d old))) (same : without_log (d.files last) ≡ reopened (d.files old))
+    (run : CrashLeaves d old last (ReopensAsOneOf (images d old))) (same : without_log (d.files last) ≡ reopened_files (d.files old))
     (as_read : d.left_since final (d.moment last) (d.files final)) where
   abbrev r : Files
-  r = reopened (d.files old)
+  r = reopened_files (d.files old)
 
   abbrev past : Files → Type 0
   past = images d old
@@ -93,7 +93,7 @@ module _ {D : Type 0} (d : disk.Ghosts D) (words : List (List ℕ)) (task : Task
   still_before image stands = (d.files old, here, record { same = stands.same ∙ same; log = sound_log image stands.sound })
 
   module _ (left : CrashLeaves d last final (ReopensAs (without_log (d.files last)))) where
-    still_final : reopened (d.files final) ≡ r
+    still_final : reopened_files (d.files final) ≡ r
     still_final = (left.each (d.files final) as_read).same ∙ same
 
     still_log : KeepsLog (d.files old) (d.files final)
@@ -132,7 +132,7 @@ module _ {D : Type 0} (d : disk.Ghosts D) (words : List (List ℕ)) (task : Task
     has : Says (λ t. t ≡ made) new.pkg
     has = record { value = on.0; undamaged = on.1; is = on.2.state_is }
 
-    has_made : (image : Files) → reopened image ≡ without_log new → HasState made image
+    has_made : (image : Files) → reopened_files image ≡ without_log new → HasState made image
     has_made image stands = subst (λ (f : Files). Says (λ t. t ≡ made) f.pkg) (sym stands) has
 
     current : MayBegin anew Lawful → HasUsableIndex new.pkg new.idx
@@ -261,7 +261,7 @@ module _ {D : Type 0} (d : disk.Ghosts D) (words : List (List ℕ)) (task : Task
 
     -- it was
     module _ (done : without_log (d.files final) ≡ without_log new) (shut : IsShut d final) where
-      final_is : reopened (d.files final) ≡ without_log new
+      final_is : reopened_files (d.files final) ≡ without_log new
       final_is = shut_stands (d.files final) shut.closed ∙ done
 
       committed : One (done_why tally.failed) tally.changes

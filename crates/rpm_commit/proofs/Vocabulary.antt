@@ -31,7 +31,7 @@ pub use Rattle.rpm_commit.specs.Lawful.{AreLawfulDatabases, HasUsableIndex, IsLa
 pub use Rattle.rpm_commit.specs.Limits.{LimitsBy, LogIs, MeetsFirst}
 pub use Rattle.rpm_commit.specs.laws.Words.{command_limit, LogOn}
 pub use Rattle.rpm_commit.specs.Reaches.{begun_store, LengthsOn, ReachesBy}
-pub use Rattle.rpm_commit.specs.laws.Words.{HasStore, ReachesOn, StoresOn}
+pub use Rattle.rpm_commit.specs.laws.Words.{HasStore, ReachesOn}
 pub use Rattle.rpm_commit.specs.Run.{ran}
 pub use Rattle.rpm_command.specs.Tasks.{task_parts, TaskParts}
 pub use Rattle.rpm_commit.specs.Tasks.{changes_index, is_anew, needs_none, reads_shelf, task_course}
@@ -64,14 +64,14 @@ pub use Rattle.rpm_group.specs.Layers.{laid_files}
 pub use Rattle.rpm_group.specs.Loads.{IsSound}
 pub use Rattle.rpm_group.specs.Overlay.{overlay_below, overlay_held, overlay_read, overlay_starved}
 pub use Rattle.rpm_group.specs.Crashes.{KeepsLog, RecoverSays, ReopensAs, ReopensAsOneOf}
-pub use Rattle.rpm_group.specs.laws.KeptLogs.{recovered_kept, same_kept}
+pub use Rattle.rpm_group.specs.laws.KeptLogs.{recovered_kept}
 pub use Rattle.rpm_hindex.specs.Rows.{Row}
 pub use Rattle.rpm_hindex.specs.Sizes.{doubled_buckets, units_for}
 pub use Rattle.rpm_outside.specs.Buffered.{inner}
 pub use Rattle.rpm_outside.specs.Causes.{HasCauseAt, Rose}
 pub use Rattle.rpm_outside.specs.Files.{Files, Units, with_file}
 pub use Rattle.rpm_outside.specs.Frame.{images, CrashLeaves, OnlyReadsFile}
-pub use Rattle.rpm_outside.specs.Logs.{log_state, LogState, reopened, without_log}
+pub use Rattle.rpm_outside.specs.Logs.{log_state, LogState, reopened_files, without_log}
 pub use Rattle.rpm_outside.specs.Shelves.{bytes_at}
 pub use Rattle.rpm_outside.specs.declared.buffered.Buffered.{Buffered}
 pub use Rattle.rpm_outside.specs.declared.disk.File.{File}
@@ -86,8 +86,5 @@ pub use Rattle.rpm_outside.specs.Frame.{DiskFault}
 pub use Rattle.rpm_db.specs.Frame.{Runs, state_in}
 pub use Rattle.rpm_effects.specs.Shown.{shown_outputs}
 pub use Rattle.rpm_effects.specs.declared.answer.Why.{Why}
-pub use Rattle.rpm_words.specs.Number.{number}
-pub use Rattle.rpm_words.specs.Words.{word_at}
-pub use Rattle.std.specs.List.{filter_map}
 pub use Rattle.std.specs.Option.{option_or}
 pub use Rattle.std.specs.Ordering.{nat_cmp}

@@ -1,6 +1,6 @@
 -- Commands that change packages: what each answers and leaves. A command is the course that it takes from the state
 -- that it finds. On it rest `did` and `changed` of `changes`, and `empty`, on the page (`rpm_tool`, Theorem.antt).
-use Rattle.std.specs.Prelude.{◌≡◌, ◌⊎◌, ℕ, ◌^◌, ◌≤◌, List, [], length, Bool, true, false, Some, None, is_some, Result, Ok}
+use Rattle.std.specs.Prelude.{◌≡◌, ◌⊎◌, ℕ, ◌^◌, ◌≤◌, List, [], length, Bool, true, false, Some, None, is_some, Ok}
 use Rattle.std.specs.Prelude.{Err, IfOk}
 use Rattle.std.specs.Ordering.{nat_cmp}
 use Rattle.std.specs.FinMap as finite
@@ -9,8 +9,7 @@ use Rattle.rpm_outside.specs.declared.disk.Disk as disk
 use Rattle.rpm_outside.specs.Changes.{AreDurable}
 use Rattle.rpm_outside.specs.Files.{Units, Files}
 use Rattle.rpm_outside.specs.Frame.{images, CrashLeaves}
-use Rattle.rpm_outside.specs.Logs.{LogState, Malformed, log_state, reopened}
-use Rattle.rpm_pkgdb.specs.declared.slot.Damage.{Damage}
+use Rattle.rpm_outside.specs.Logs.{Malformed, log_state, reopened_files}
 use Rattle.rpm_pkgdb.specs.Store.{KeepsStore, Store, store}
 use Rattle.rpm_db.specs.Changes.{Says}
 use Rattle.rpm_db.specs.Lawful.{IsWholeIndex, is_current_at}
@@ -46,7 +45,7 @@ ChangeProgress course given old new =
 abbrev pub FilesAnswer : (Store → Type 0) → Files → Why → Outputs → Outputs → Type 0
 FilesAnswer Does files given old new = elim (log_state files.log) [
   | Malformed unit ↦ Misread unit given × Through [] old new
-  | others ↦ elim (store (reopened files).pkg) [
+  | others ↦ elim (store (reopened_files files).pkg) [
     | Ok s ↦ Does s
     | Err damage ↦ RefusalIs damage given × Through [] old new
   ]
@@ -56,7 +55,7 @@ FilesAnswer Does files given old new = elim (log_state files.log) [
 
 -- the files represent this state
 abbrev pub HasState : State → Files → Type 0
-HasState s files = Says (λ t. t ≡ s) (reopened files).pkg
+HasState s files = Says (λ t. t ≡ s) (reopened_files files).pkg
 
 -- the state after all changes of a course, which are one transaction
 abbrev pub after : (State → Course) → State → State
@@ -84,13 +83,13 @@ pub record HasChanges (anew : Bool) (Lawful : Type 0) (course : State → Course
   pub sound : IsSound (log_state files.log)
   pub has : HasState (after course (state found.pkg value)) files
   pub stored : (left : Store) × (next_stores (course (state found.pkg value)).changes (begun_store value) ≡ Some left)
-      × KeepsStore (reopened files).pkg left
-  pub reaches : ReachesBy anew Lawful course found (reopened files)
+      × KeepsStore (reopened_files files).pkg left
+  pub reaches : ReachesBy anew Lawful course found (reopened_files files)
   pub lawful : MayBegin anew Lawful → IsLawfulDatabase files
 
 -- the rows of the packages that files represent fit into an index
 abbrev pub RowsFit : Files → Type 0
-RowsFit files = units_needed (reopened files).pkg (store (reopened files).pkg) ≤ 2 ^ 28
+RowsFit files = units_needed (reopened_files files).pkg (store (reopened_files files).pkg) ≤ 2 ^ 28
 
 -- each image has rows that fit into an index
 abbrev pub AllRowsFit : (Files → Type 0) → Type 0
@@ -133,30 +132,30 @@ BadBy changing pkg idx given = (unit : ℕ) → given ≡ why.BadIndex unit → 
 pub record ChangesWith {D : Type 0} {d : disk.Ghosts D} (r : Run d) (anew changing : Bool)
     (course : State → Course) : Type 0 where
   pub counted : is_done r.why ≡ false → r.changes ≡ 0
-  pub state_is : IfOk (store (reopened (d.files r.found)).pkg)
-      (λ s. LeavesState course (state (reopened (d.files r.found)).pkg s) r.why r.changes (d.files r.left))
-  pub refused : is_done_or_fault r.why ≡ false → reopened (d.files r.left) ≡ reopened (d.files r.found)
-  pub made : is_done r.why ≡ true → IsDatabaseMade (reopened (d.files r.left)).pkg
+  pub state_is : IfOk (store (reopened_files (d.files r.found)).pkg)
+      (λ s. LeavesState course (state (reopened_files (d.files r.found)).pkg s) r.why r.changes (d.files r.left))
+  pub refused : is_done_or_fault r.why ≡ false → reopened_files (d.files r.left) ≡ reopened_files (d.files r.found)
+  pub made : is_done r.why ≡ true → IsDatabaseMade (reopened_files (d.files r.left)).pkg
   pub index : MayBegin anew (IsLawfulDatabase (d.files r.found)) → is_done r.why ≡ true
       → HasClosedIndex (d.files r.left)
   pub durable : is_done r.why ≡ true → AreDurable (d.files r.left) (images d r.left)
   pub lawful : MayBegin anew (IsLawfulDatabase (d.files r.found)) → is_done r.why ≡ true
       → AreLawfulDatabases (images d r.left)
-  pub bad : BadBy changing (reopened (d.files r.found)).pkg (reopened (d.files r.found)).idx r.why
+  pub bad : BadBy changing (reopened_files (d.files r.found)).pkg (reopened_files (d.files r.found)).idx r.why
   pub complete : IsLawfulDatabase (d.files r.found) → is_of_lawful r.why ≡ true
-  pub crashes : AreLawfulDatabases (images d r.found) → IfOk (store (reopened (d.files r.found)).pkg)
+  pub crashes : AreLawfulDatabases (images d r.found) → IfOk (store (reopened_files (d.files r.found)).pkg)
       (λ s. CrashLeaves d r.found r.left (λ image. IsLawfulAndSame (images d r.found) image
-      ⊎ (IsLawfulDatabase image × HasState (after course (state (reopened (d.files r.found)).pkg s)) image)))
+      ⊎ (IsLawfulDatabase image × HasState (after course (state (reopened_files (d.files r.found)).pkg s)) image)))
   pub unmade : is_done_or_fault r.why ≡ false → AreLawfulDatabases (images d r.found)
       → CrashLeaves d r.found r.left (IsLawfulAndSame (images d r.found))
   pub fits : AreLawfulDatabases (images d r.found) → AllRowsFit (images d r.found)
       → CrashLeaves d r.found r.left RowsFit
-  pub held : is_done r.why ≡ true → IfOk (store (reopened (d.files r.found)).pkg)
+  pub held : is_done r.why ≡ true → IfOk (store (reopened_files (d.files r.found)).pkg)
       (λ s. (image : Files) → images d r.left image → HasState
-      (after course (state (reopened (d.files r.found)).pkg s)) image)
+      (after course (state (reopened_files (d.files r.found)).pkg s)) image)
   pub kept : KeepsLog (d.files r.found) (d.files r.left)
   pub next : is_done r.why ≡ true → HasChanges anew (IsLawfulDatabase (d.files r.found)) course
-      (reopened (d.files r.found)) (d.files r.left)
+      (reopened_files (d.files r.found)) (d.files r.left)
   pub images : CrashLeaves d r.found r.left (λ image. ReopensAsOneOf (images d r.found) image
       ⊎ ((is_done_or_fault r.why ≡ true)
-      × HasChanges anew (IsLawfulDatabase (d.files r.found)) course (reopened (d.files r.found)) image))
+      × HasChanges anew (IsLawfulDatabase (d.files r.found)) course (reopened_files (d.files r.found)) image))

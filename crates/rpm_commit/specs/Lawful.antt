@@ -3,7 +3,7 @@
 use Rattle.std.specs.Prelude.{◌≡◌, ◌⊎◌, Bool, true, false, Ok}
 use Rattle.rpm_outside.specs.Frame.{images}
 use Rattle.rpm_outside.specs.Files.{Files, Units}
-use Rattle.rpm_outside.specs.Logs.{Closed, log_state, reopened}
+use Rattle.rpm_outside.specs.Logs.{Closed, log_state, reopened_files}
 use Rattle.rpm_pkgdb.specs.Store.{Store, store}
 use Rattle.rpm_group.specs.Loads.{IsSound}
 use Rattle.rpm_group.specs.Crashes.{KeepsLog}
@@ -13,7 +13,7 @@ use Rattle.rpm_db.specs.State.{packages}
 -- files that represent a lawful database: their log is closed, or has a transaction that makes it of them
 pub record IsLawfulDatabase (files : Files) : Type 0 where
   pub sound : IsSound (log_state files.log)
-  pub lawful : IsLawful (reopened files).pkg (reopened files).idx
+  pub lawful : IsLawful (reopened_files files).pkg (reopened_files files).idx
 
 -- a command that makes the index anew may begin with any index; another asks for a lawful database
 abbrev pub MayBegin : Bool → Type 0 → Type 0
@@ -28,14 +28,14 @@ AreLawfulDatabases images = (image : Files) → images image → IsLawfulDatabas
 pub record KeepsPackages (images : Files → Type 0) (image : Files) : Type 0 where
   pub from : Files
   pub was : images from
-  pub pkg : (reopened image).pkg ≡ (reopened from).pkg
+  pub pkg : (reopened_files image).pkg ≡ (reopened_files from).pkg
   pub log : KeepsLog from image
 
 -- a lawful image, that represents the packages that one of these represents
 pub record IsLawfulAndSame (images : Files → Type 0) (image : Files) : Type 0 where
   pub from : Files
   pub was : images from
-  pub pkg : (reopened image).pkg ≡ (reopened from).pkg
+  pub pkg : (reopened_files image).pkg ≡ (reopened_files from).pkg
   pub lawful : IsLawfulDatabase image
 
 -- the index is current, and holds the rows of the packages, each as often; a database that is blank needs none

@@ -1,11 +1,11 @@
 -- The limits of a command that changes packages: the first that it meets is the one that it is answered; and when the
 -- disk failed. On it rest `limits`, `log` and `fault` of `changes` on the page (`rpm_tool`, Theorem.antt).
-use Rattle.std.specs.Prelude.{◌≡◌, ◌⊎◌, ℕ, ◌^◌, ◌<◌, ◌≤◌, ◌||◌, if◌then◌else◌, Bool, true, false, Option, Some, None, Ok, IfOk}
+use Rattle.std.specs.Prelude.{◌≡◌, ◌⊎◌, ◌^◌, ◌<◌, ◌≤◌, ◌||◌, if◌then◌else◌, Bool, true, false, Option, Some, None, Ok, IfOk}
 use Rattle.rpm_outside.specs.declared.disk.Disk as disk
 use Rattle.rpm_outside.specs.Files.{Files}
 use Rattle.rpm_outside.specs.Frame.{images, CrashLeaves}
-use Rattle.rpm_outside.specs.Logs.{reopened}
-use Rattle.rpm_pkgdb.specs.Store.{Store, store}
+use Rattle.rpm_outside.specs.Logs.{reopened_files}
+use Rattle.rpm_pkgdb.specs.Store.{store}
 use Rattle.rpm_group.specs.Transactions.{longest_log}
 use Rattle.rpm_group.specs.Crashes.{ReopensAsOneOf}
 use Rattle.rpm_db.specs.Changes.{Says}
@@ -76,8 +76,8 @@ module _ {D : Type 0} {d : disk.Ghosts D} where
   -- it: then all lines were printed, and no limit was met
   abbrev pub FaultIs : Run d → Bool → (State → Course) → Type 0
   FaultIs r anew course = r.why ≡ why.DiskFault
-      → ((reopened (d.files r.left) ≡ reopened (d.files r.found))
+      → ((reopened_files (d.files r.left) ≡ reopened_files (d.files r.found))
       × (AreLawfulDatabases (images d r.found) → CrashLeaves d r.found r.left (IsLawfulAndSame (images d r.found)))
       × CrashLeaves d r.found r.left (ReopensAsOneOf (images d r.found)))
-      ⊎ (Says (λ s. Through (course s).steps r.before r.after) (reopened (d.files r.found)).pkg
-      × LimitsBy anew (IsLawfulDatabase (d.files r.found)) course (reopened (d.files r.found)) why.Done)
+      ⊎ (Says (λ s. Through (course s).steps r.before r.after) (reopened_files (d.files r.found)).pkg
+      × LimitsBy anew (IsLawfulDatabase (d.files r.found)) course (reopened_files (d.files r.found)) why.Done)

@@ -5,7 +5,7 @@ pub use Rattle.rpm_group.specs.Layers.{laid_files}
 pub use Rattle.rpm_group.specs.Overlay.{overlay_below, overlay_held, overlay_starved}
 pub use Rattle.rpm_outside.specs.Causes.{Rose}
 pub use Rattle.rpm_outside.specs.Changes.{IsDurable}
-pub use Rattle.rpm_outside.specs.Logs.{reopened, without_log}
+pub use Rattle.rpm_outside.specs.Logs.{reopened_files, without_log}
 pub use Rattle.rpm_pkgdb.specs.Store.{store}
 pub use Rattle.rpm_commit.specs.Changing.{EmptyBy}
 pub use Rattle.rpm_commit.specs.Answers.{AnswersChange}

@@ -1,7 +1,7 @@
 -- What a command that changes packages leaves to the next one beside the packages and the index: the store after its
 -- changes, and how long the files are. On it rest `next` and `images` of `changes.changed`, and `changes.log`, on the
 -- page (`rpm_tool`, Theorem.antt).
-use Rattle.std.specs.Prelude.{◌≡◌, ℕ, ◌≤◌, ◌==◌, if◌then◌else◌, max, List, length, Bool, true, IfOk}
+use Rattle.std.specs.Prelude.{◌≡◌, ◌≤◌, ◌==◌, if◌then◌else◌, max, List, length, Bool, true, IfOk}
 use Rattle.rpm_outside.specs.Files.{Units, Files, unit_at}
 use Rattle.rpm_hindex.specs.Index.{records}
 use Rattle.rpm_hindex.specs.Plans.{reach_with}

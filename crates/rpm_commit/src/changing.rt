@@ -1,7 +1,7 @@
 //! `AnswersChange` of the theorem: commands that change packages, all changes of a command line as one.
 
 ghost use Rattle.std.specs.Prelude.{◌≡◌, ◌⊎◌, ◌≤◌, ℕ, List, true, false, IsTrue, Err, IfErr};
-ghost use Rattle.rpm_commit.specs.Prelude.{AnswersChange, done_why, EmptyBy, TransactionEnding, is_done, is_halt, is_of_streams, is_of_words, IsCountable, IsShut, KeepsAlways, laid_files, LogIs, needs_none, overlay_below, overlay_held, overlay_starved, ran, reads_shelf, reopened, Rose, shown_outputs, Streams, task_course, task_parts, without_log};
+ghost use Rattle.rpm_commit.specs.Prelude.{AnswersChange, done_why, EmptyBy, TransactionEnding, is_done, is_halt, is_of_streams, is_of_words, IsCountable, IsShut, KeepsAlways, laid_files, LogIs, needs_none, overlay_below, overlay_held, overlay_starved, ran, reads_shelf, reopened_files, Rose, shown_outputs, Streams, task_course, task_parts, without_log};
 
 use crate::courses::change_on;
 use rpm_command::Task;
@@ -117,7 +117,7 @@ pub fn change_asked<D: Disk, S: Shelf, O: Sink + Drop, E: Sink + Drop>(
         → AnswersChange (ran D.Disk words result.0.why result.0.changes (disk, result.1)
         (shown_outputs O.Sink E.Sink out.old err.old, shown_outputs O.Sink E.Sink out.new err.new))
         (task_parts task.now) (task_course (S.paths shelf.old) now (task_parts task.now)) }
-    ensures empty { IsTrue D.tells → EmptyBy (needs_none (task_parts task.now)) (reopened (D.files disk)) result.0.why }
+    ensures empty { IsTrue D.tells → EmptyBy (needs_none (task_parts task.now)) (reopened_files (D.files disk)) result.0.why }
     ensures keeps { KeepsAlways D.Disk result.0 disk result.1 }
     ensures streams { Streams S.Shelf O.Sink E.Sink (reads_shelf (task_parts task.now))
         (λ why. result.0.why ≡ why) (shelf.old, out.old, err.old)

@@ -3,7 +3,7 @@ use Rattle.std.proofs.Common.{◌≡◌, inl, inr, ℕ, ◌+◌, ◌<◌, ◌≤
 use Rattle.std.specs.FinMap as finite
 use Rattle.rpm_db.proofs.Vocabulary.{Agrees, BlobMap, BlobsTo, buckets_of, Files, HasRows, IndexTo, is_current, is_current_at, is_in_order, IsBetween}
 use Rattle.rpm_db.proofs.Vocabulary.{IsChangedStill, IsLawful, IsOfRows, IsSealedAfter, IsWellFormed, nat_cmp, Package, packages, packages-blobs, packages_of}
-use Rattle.rpm_db.proofs.Vocabulary.{records, Row, rows, SameRows, sealed, Represents, state, state_with, Store, unit_at, Units, void_agrees, Work, WritesRows}
+use Rattle.rpm_db.proofs.Vocabulary.{records, Row, rows, SameRows, sealed_generation, Represents, state, state_with, Store, unit_at, Units, void_agrees, Work, WritesRows}
 use Rattle.std.proofs.lemmas.Bool.{and_parts}
 use Rattle.std.proofs.lemmas.Bool.Decides.{nat_tests}
 use Rattle.rpm_hindex.specs.State.{opened_state}
@@ -19,22 +19,22 @@ image_state g f B image s =
     ∙ ap (state_with (packages_of B)) s.field_is
 
 -- an index that is sealed at an earlier generation agrees with each store
-pub earlier_agrees : (value : Store) (pkg idx : Units) → sealed (unit_at idx 0) < value.generation → Agrees value pkg idx
+pub earlier_agrees : (value : Store) (pkg idx : Units) → sealed_generation (unit_at idx 0) < value.generation → Agrees value pkg idx
 unfolding is_current
 earlier_agrees value pkg idx early = record {
   rows_are = λ current.
-      (let at = (and_parts (eqb (sealed (unit_at idx 0)) value.generation) (is_in_order (opened_state idx)) current).0 in
-      let is : sealed (unit_at idx 0) ≡ value.generation = grind (arith, nat_tests) in
+      (let at = (and_parts (eqb (sealed_generation (unit_at idx 0)) value.generation) (is_in_order (opened_state idx)) current).0 in
+      let is : sealed_generation (unit_at idx 0) ≡ value.generation = grind (arith, nat_tests) in
       absurd (omega (arith, early, is)));
   no_later = omega (arith, early);
 }
 
 -- an index that is sealed no later than a store, and holds the rows of its packages where it is current
 pub record Fits (g : ℕ) (B : BlobMap) (idx : Units) : Type 0 where
-  pub behind : sealed (unit_at idx 0) ≤ g
+  pub behind : sealed_generation (unit_at idx 0) ≤ g
   pub rows_are : is_current_at g idx ≡ true → HasRows (packages_of B) idx
 
-pub fits_now : (g : ℕ) (B : BlobMap) (idx : Units) → sealed (unit_at idx 0) ≡ g → HasRows (packages_of B) idx → Fits g B idx
+pub fits_now : (g : ℕ) (B : BlobMap) (idx : Units) → sealed_generation (unit_at idx 0) ≡ g → HasRows (packages_of B) idx → Fits g B idx
 fits_now g B idx at has = record { behind = omega (arith, at); rows_are = λ current. has }
 
 now_lawful : (g f : ℕ) (B : BlobMap) (pkg idx : Units) → Represents g f B pkg → Fits g B idx → IsLawful pkg idx
@@ -49,12 +49,12 @@ now_lawful g f B pkg idx s fits = inr (
   },
 )
 
-later_lawful : (g f : ℕ) (B : BlobMap) (pkg idx : Units) → Represents g f B pkg → sealed (unit_at idx 0) < g → IsLawful pkg idx
+later_lawful : (g f : ℕ) (B : BlobMap) (pkg idx : Units) → Represents g f B pkg → sealed_generation (unit_at idx 0) < g → IsLawful pkg idx
 later_lawful g f B pkg idx s early = inr (s.value, s.undamaged, earlier_agrees s.value pkg idx (omega (arith, early, s.generation_is)))
 
 -- the index that is sealed after a change
 pub rows_sealed : (g : ℕ) (packages : finite.FinMap nat_cmp Package) (work : Work) (file idx : Units) → WritesRows (rows packages) work file
-    → IsSealedAfter g work file idx → HasRows packages idx × (sealed (unit_at idx 0) ≡ g)
+    → IsSealedAfter g work file idx → HasRows packages idx × (sealed_generation (unit_at idx 0) ≡ g)
 rows_sealed g packages work file idx w s =
     let sealed_is = s.sealed w.whole in (
       record {
@@ -67,15 +67,16 @@ rows_sealed g packages work file idx w s =
 
 -- while an index that was sealed earlier gets the rows of the packages beside it, the files stay lawful
 pub filled_lawful : (g : ℕ) (work : Work) (index : Units) (to : finite.FinMap nat_cmp Package) → WritesRows (rows to) work index
-    → (sealed (unit_at index 0) ≡ g → ⊥) → (pkg mid idx : Units) → mid ≡ index → IsOfRows g (rows to) pkg → IndexTo g work index mid idx
+    → (sealed_generation (unit_at index 0) ≡ g → ⊥) → (pkg mid idx : Units) → mid ≡ index → IsOfRows g (rows to) pkg → IndexTo g work index mid idx
     → IsLawful pkg mid → IsLawful pkg idx
 filled_lawful g work index to writes apart pkg mid idx same of change (inl none) = inl none
 filled_lawful g work index to writes apart pkg mid idx same of (inl void) (inr is) = inr (is.0, is.1, void_agrees is.0 pkg idx void)
 filled_lawful g work index to writes apart pkg mid idx same of (inr (inl seal)) (inr is) =
     let store_is : is.0 ≡ of.value = (let first = is.1 in let second = of.undamaged in cc) in
     let generation : is.0.generation ≡ g = ap (λ (s : Store). s.generation) store_is ∙ of.generation_is in
-    let at : sealed (unit_at idx 0) ≡ sealed (unit_at index 0) = ap sealed seal ∙ ap (λ (u : Units). sealed (unit_at u 0)) same in
-    let behind : sealed (unit_at index 0) ≤ g = omega (arith, is.2.no_later, generation, ap (λ (u : Units). sealed (unit_at u 0)) same) in
+    let at : sealed_generation (unit_at idx 0) ≡ sealed_generation (unit_at index 0) =
+    ap sealed_generation seal ∙ ap (λ (u : Units). sealed_generation (unit_at u 0)) same in
+    let behind : sealed_generation (unit_at index 0) ≤ g = omega (arith, is.2.no_later, generation, ap (λ (u : Units). sealed_generation (unit_at u 0)) same) in
     inr (is.0, is.1, earlier_agrees is.0 pkg idx (omega (arith, at, behind, generation, apart)))
 filled_lawful g work index to writes apart pkg mid idx same of (inr (inr sealed_is)) (inr is) =
     let r = rows_sealed g to work index idx writes sealed_is in
@@ -99,8 +100,8 @@ module _ (g f next : ℕ) (B after : BlobMap) (index : Units) (fits : Fits g B i
   pub store_crash : (image from : Files) → images from → image.idx ≡ index → image.log ≡ from.log → BlobsTo g f next B after image.pkg → Still image
   store_crash image from was idx log to = either to
     where
-      early : sealed (unit_at image.idx 0) < g + 1
-      early = omega (arith, ap (λ (u : Units). sealed (unit_at u 0)) idx, fits.behind)
+      early : sealed_generation (unit_at image.idx 0) < g + 1
+      early = omega (arith, ap (λ (u : Units). sealed_generation (unit_at u 0)) idx, fits.behind)
 
       still : {h k : ℕ} {C : BlobMap} → Represents h k C image.pkg → IsLawful image.pkg image.idx
           → IsBetween (writes.state_of B f) (writes.state_of after next) (writes.state_of C k) → Still image
@@ -127,7 +128,8 @@ module _ (g f next : ℕ) (B after : BlobMap) (index : Units) (fits : Fits g B i
     index_lawful : (pkg mid idx : Units) → Represents (g + 1) next after pkg → mid ≡ index → IndexTo (g + 1) work index mid idx → IsLawful pkg idx
     index_lawful pkg mid idx s same (inl void) = inr (s.value, s.undamaged, void_agrees s.value pkg idx void)
     index_lawful pkg mid idx s same (inr (inl seal)) =
-        later_lawful (g + 1) next after pkg idx s (omega (arith, ap sealed seal, ap (λ (u : Units). sealed (unit_at u 0)) same, fits.behind))
+        later_lawful (g + 1) next after pkg idx s
+        (omega (arith, ap sealed_generation seal, ap (λ (u : Units). sealed_generation (unit_at u 0)) same, fits.behind))
     index_lawful pkg mid idx s same (inr (inr sealed_is)) =
         let r = rows_sealed (g + 1) (packages_of after) work index idx writes_rows sealed_is in
         now_lawful (g + 1) next after pkg idx s (fits_now (g + 1) after idx r.1 r.0)

@@ -3,7 +3,7 @@ use Rattle.std.proofs.Common.{◌≡◌, ℕ, zero, suc, List, [], length, repli
 use Rattle.rpm_db.proofs.Vocabulary.{begins_with_word, blank_store, blobs, bucket_count, entry_of_slot, filter, free, get-packages, head_reason, in_file, is_blank, is_used}
 use Rattle.rpm_db.proofs.Vocabulary.{IsEmpty, IsUnsealed, IsWellFormed, live_of, made_new, made_or_damaged, made_store, option_map, package_of, packages}
 use Rattle.rpm_db.proofs.Vocabulary.{Reason, records, RewriteFault, Row, rows, rows_at, SameRows, Store, store, slot_units, table_fault, times}
-use Rattle.rpm_db.proofs.Vocabulary.{times-rows, unit_at, Units, units_for, unless, word}
+use Rattle.rpm_db.proofs.Vocabulary.{times-rows, unit_at, Units, units_for, value_or_fault, word}
 use Rattle.std.specs.Prelude.{codes}
 use Rattle.std.specs.FinMap as finite
 use Rattle.std.proofs.lemmas.Bool.{cases_Bool}
@@ -12,7 +12,7 @@ use Rattle.rpm_hindex.specs.declared.faults.RewriteFault.TheVariants as rewrite
 use Rattle.rpm_hindex.specs.Rewrites.{IsIndexFull}
 
 -- a store of no pages is a blank one
-passed : {X E : Type 0} (o : Option E) (x y : X) → unless o x ≡ Ok y → x ≡ y
+passed : {X E : Type 0} (o : Option E) (x y : X) → value_or_fault o x ≡ Ok y → x ≡ y
 passed None x y is = cc
 passed (Some e) x y is = absurd cc
 

@@ -4,7 +4,7 @@ use Rattle.std.specs.Prelude.{IsTrue}
 use Rattle.std.specs.FinMap as finite
 use Rattle.rpm_db.proofs.Vocabulary.{AreLawful, AreOfRows, ImageFrom, IsImageOfChange, Changes, Files, Idx, images, IndexTo, IsLawful}
 use Rattle.rpm_db.proofs.Vocabulary.{IsLawfulStill, IsQuiet, IsDurable, KeepsStore, leaves_then, leaves_weaker, CrashLeaves, nat_cmp, Package, packages}
-use Rattle.rpm_db.proofs.Vocabulary.{packages-blobs, packages_of, rows, Runs, SameFiles, sealed, Store, unit_at, Units, Work}
+use Rattle.rpm_db.proofs.Vocabulary.{packages-blobs, packages_of, rows, Runs, SameFiles, sealed_generation, Store, unit_at, Units, Work}
 use Rattle.rpm_db.proofs.Vocabulary.{WritesRows}
 use Rattle.rpm_outside.specs.declared.disk.Disk as disk
 use Rattle.rpm_pkgdb.proofs.ErasesTo.{stands_for}
@@ -37,7 +37,7 @@ module _ {D : Type 0} (d : disk.Ghosts D) where
   -- and then the rows of these packages
   pub crashes_filled : (a b c : D) → IsTrue d.tells → AreLawful (images d a) → Runs d SameFiles a b
       → (generation : ℕ) (work : Work) (to : finite.FinMap nat_cmp Package) → IsDurable Idx (d.files a) (images d a)
-      → (sealed (unit_at (d.files a).idx 0) ≡ generation → ⊥) → AreOfRows generation to (images d a) → WritesRows (rows to) work (d.files a).idx
+      → (sealed_generation (unit_at (d.files a).idx 0) ≡ generation → ⊥) → AreOfRows generation to (images d a) → WritesRows (rows to) work (d.files a).idx
       → Changes d Idx (IndexTo generation work (d.files b).idx) 0 b c
       → CrashLeaves d a c (IsLawfulStill (images d a))
   crashes_filled a b c told lawful run generation work to durable apart of writes change =

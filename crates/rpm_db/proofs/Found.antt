@@ -3,14 +3,14 @@ use Rattle.std.proofs.Common.{◌≡◌, ℕ, ◌<◌, ◌%◌, List, Ok, Err, R
 use Rattle.std.specs.Prelude.{IfOk, IfErr, IsOk}
 use Rattle.std.proofs.lemmas.Bool.{and_parts}
 use Rattle.rpm_db.proofs.Vocabulary.{AreHits, buckets_of, chain, FindFault, FindIs, Hit, index_in, is_current, is_headed, is_in_order, is_ordered, IsOutsideIndex}
-use Rattle.rpm_db.proofs.Vocabulary.{IsWellFormed, Row, row_of_hit, SameRows, sealed, IndexState, Units}
+use Rattle.rpm_db.proofs.Vocabulary.{IsWellFormed, Row, row_of_hit, SameRows, sealed_generation, IndexState, Units}
 use Rattle.rpm_hindex.specs.declared.faults.FindFault.TheVariants.{BadIndex, DiskFault, NoMemory}
 use Rattle.rpm_db.proofs.Making.{ordered_pending}
 
 -- an index that is current at a generation is in order, and has buckets
 pub current_in_order : (generation : ℕ) (s : IndexState) → is_current generation s ≡ true → is_in_order s ≡ true
 unfolding is_current
-current_in_order generation s p = (and_parts (eqb (sealed s.first) generation) (is_in_order s) p).1
+current_in_order generation s p = (and_parts (eqb (sealed_generation s.first) generation) (is_in_order s) p).1
 
 pub some_buckets : (s : IndexState) → is_in_order s ≡ true → 0 < buckets_of s.first
 unfolding is_in_order

@@ -4,14 +4,14 @@ use Rattle.std.proofs.lemmas.Bool.{and_parts}
 use Rattle.rpm_outside.specs.Files.{Units, Files, unit_at, blank}
 use Rattle.rpm_pkgdb.specs.Store.{Store}
 use Rattle.rpm_outside.specs.Words.{word}
-use Rattle.rpm_hindex.specs.State.{opened_state, sealed, is_headed, is_in_order, is_ordered, is_current, buckets_of}
+use Rattle.rpm_hindex.specs.State.{opened_state, sealed_generation, is_headed, is_in_order, is_ordered, is_current, buckets_of}
 use Rattle.rpm_outside.specs.laws.Moments.{leaves_weaker}
 use Rattle.rpm_db.specs.Lawful.{Agrees, IsLawful, AreLawful, IsLawfulStill, IsIndexOf, Remade}
 use Rattle.rpm_db.specs.Runs.{ImageFrom}
 use Rattle.rpm_outside.specs.declared.disk.Disk as disk
 use Rattle.rpm_outside.specs.Frame.{CrashLeaves, images}
 
-void_unsealed : sealed blank ≡ 0
+void_unsealed : sealed_generation blank ≡ 0
 unfolding blank word
 void_unsealed = refl
 
@@ -24,13 +24,13 @@ pub void_agrees : (value : Store) (pkg idx : Units) → unit_at idx 0 ≡ blank 
 unfolding is_current is_in_order
 void_agrees value pkg idx void = record {
   rows_are = λ current.
-      (let order = (and_parts (eqb (sealed (unit_at idx 0)) value.generation)
+      (let order = (and_parts (eqb (sealed_generation (unit_at idx 0)) value.generation)
       (is_in_order (opened_state idx)) current).1 in
       let head = (and_parts (is_headed (unit_at idx 0))
       (is_ordered (buckets_of (unit_at idx 0)) (unit_at idx 1) (length idx)) order).0 in
       let no : is_headed (unit_at idx 0) ≡ false = ap is_headed void ∙ void_not_headed in
       absurd cc);
-  no_later = omega (arith, ap sealed void, void_unsealed);
+  no_later = omega (arith, ap sealed_generation void, void_unsealed);
 }
 
 pub index_agrees : (pkg idx : Units) (made : IsIndexOf pkg idx) → Agrees made.value pkg idx

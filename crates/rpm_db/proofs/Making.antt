@@ -3,7 +3,7 @@ use Rattle.std.proofs.Common.{◌≡◌, ◌⊎◌, ℕ, zero, suc, ◌<◌, ◌
 use Rattle.std.proofs.lemmas.Bool.Decides.{nat_tests}
 use Rattle.rpm_db.proofs.Vocabulary.{blank, blobs, bytes_for, Changes, File, Files, HasRows, Idx, in_file, is_bucket_count, is_current, is_current_at}
 use Rattle.rpm_db.proofs.Vocabulary.{IsIndexOf, IsLawful, IsOfRows, IsSealed, IsUnsealed, IsWellFormed, packages, with_units, records, Remade, Row, rows, SameRows}
-use Rattle.rpm_db.proofs.Vocabulary.{seal_unit, sealed, SealedOrSame, IndexState, Store, store, unit_at, Units, VoidOrSame}
+use Rattle.rpm_db.proofs.Vocabulary.{seal_unit, sealed_generation, SealedOrSame, IndexState, Store, store, unit_at, Units, VoidOrSame}
 use Rattle.rpm_db.proofs.Vocabulary.{is_in_order, is_ordered, Log, OnlyReads, remade_none, remade_then, Runs, runs_index, runs_looks, runs_then}
 use Rattle.rpm_outside.specs.declared.disk.Disk as disk
 use Rattle.rpm_hindex.specs.State as hindex
@@ -109,7 +109,7 @@ rows_of_lawful pkg idx value keeps made (inr is) current =
 
 -- nor is it sealed later
 pub no_later_of_lawful : (pkg idx : Units) (value : Store) → store pkg ≡ Ok (in_file value) → 1 ≤ value.pages → IsLawful pkg idx
-    → sealed (unit_at idx 0) ≤ value.generation
+    → sealed_generation (unit_at idx 0) ≤ value.generation
 no_later_of_lawful pkg idx value keeps made (inl none) = absurd (omega (arith, made, ap (λ (s : Store). s.pages) (same_store pkg _ _ none keeps)))
 no_later_of_lawful pkg idx value keeps made (inr is) =
     omega (arith, is.2.no_later, ap (λ (s : Store). s.generation) (same_store pkg is.0 (in_file value) is.1 keeps))

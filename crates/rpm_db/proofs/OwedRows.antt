@@ -6,7 +6,7 @@ use Rattle.std.proofs.lemmas.Bool.Decides.{nat_tests}
 use Rattle.std.specs.FinMap as finite
 use Rattle.rpm_db.proofs.Vocabulary.{AreNetted, Balances, blank, Database, due, due_units, Files, HasChanged, HasRows, is_current, is_in_order}
 use Rattle.rpm_db.proofs.Vocabulary.{IsCurrentIndex, IsOrdered, live_of, nat_cmp, no_row_changes, Package, packages, Row, RowChange, rows, times, with_rows}
-use Rattle.rpm_db.proofs.Vocabulary.{generation_of, store_of, sealed, sealed_in, IndexState, times-append, times_none, Units, units_for}
+use Rattle.rpm_db.proofs.Vocabulary.{generation_of, store_of, sealed_generation, sealed_in, IndexState, times-append, times_none, Units, units_for}
 use Rattle.rpm_db.proofs.Found.{current_in_order}
 use Rattle.rpm_db.proofs.Reached.{live_none}
 use Rattle.rpm_hindex.specs.laws.RowLaws.{live-append}
@@ -38,16 +38,16 @@ rows_clear from to idx owed none has balances = record {
 
 -- ---- the seal
 
-pub current_sealed : (g : ℕ) (s : IndexState) → is_current g s ≡ true → sealed s.first ≡ g
+pub current_sealed : (g : ℕ) (s : IndexState) → is_current g s ≡ true → sealed_generation s.first ≡ g
 unfolding is_current
 current_sealed g s current =
-    let test = (and_parts (eqb (sealed s.first) g) (is_in_order s) current).0 in
+    let test = (and_parts (eqb (sealed_generation s.first) g) (is_in_order s) current).0 in
     grind (arith, nat_tests, test)
 
-pub other_sealed : (g : ℕ) (s : IndexState) → is_in_order s ≡ true → is_current g s ≡ false → sealed s.first ≡ g → ⊥
+pub other_sealed : (g : ℕ) (s : IndexState) → is_in_order s ≡ true → is_current g s ≡ false → sealed_generation s.first ≡ g → ⊥
 unfolding is_current
 other_sealed g s order other same =
-    let both = and_from (eqb (sealed s.first) g) (is_in_order s) (eq-eqb (sealed s.first) g same) order in
+    let both = and_from (eqb (sealed_generation s.first) g) (is_in_order s) (eq-eqb (sealed_generation s.first) g same) order in
     absurd cc
 
 -- as the batch begins

@@ -17,7 +17,7 @@ use Rattle.rpm_db.proofs.Applied.{erase_state, put_state}
 use Rattle.rpm_db.proofs.Edited.{blobs_room, number_is, quiet_room, rows_erased, rows_put}
 use Rattle.rpm_db.proofs.Halves.{half_crashes}
 use Rattle.rpm_db.proofs.Puts.{field_planned, map_planned, number_same, packages_same, reads_put}
-use Rattle.rpm_db.proofs.Reached.{added_are, added_is, dropped_are, live_none}
+use Rattle.rpm_db.proofs.Reached.{added_are, added_is, dropped_are}
 use Rattle.rpm_db.proofs.Rooms.{put_next, put_placed, room_erased, room_of_index, room_put}
 use Rattle.rpm_db.proofs.Served.{room_same}
 use Rattle.rpm_db.proofs.Sums.{changed_is, sums_room}

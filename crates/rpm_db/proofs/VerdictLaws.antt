@@ -7,7 +7,7 @@ use Rattle.rpm_outside.specs.Words.{bytes_of_word, word}
 use Rattle.rpm_pkgdb.specs.laws.BlobLaws.{get-blobs-frames}
 use Rattle.rpm_pkgdb.specs.Blobs.{blob_in, blocks_at, blocks_for, Frame, frame_of, frames, is_framed, tail}
 use Rattle.rpm_pkgdb.specs.Checksums.{adler, checksum_holds, checksums_hold}
-use Rattle.rpm_pkgdb.specs.Framing.{framed, head_of, padding, summed_bytes, tail_of}
+use Rattle.rpm_pkgdb.specs.Framing.{framed_blob, head_of, padding, summed_bytes, tail_of}
 use Rattle.rpm_pkgdb.specs.Slots.{slot_at, slot_with}
 use Rattle.rpm_pkgdb.specs.Stays.{blocks_with}
 use Rattle.rpm_pkgdb.specs.Store.{KeepsStore, Store}
@@ -119,7 +119,7 @@ module _ (n g : ℕ) (b : List ℕ) where
 
 module _ (file : Units) (value : Store) (s : Slot) (g : ℕ) (b : List ℕ) (keeps : KeepsStore file value) (some : 1 ≤ value.pages)
     (is : slot_with s.number value.slots ≡ Some s) (count : s.count ≡ blocks_for (length b)) (fits_n : s.number < 2 ^ 32) (fits_g : g < 2 ^ 32)
-    (few : length b ≤ 68157432) (stands : take s.count (drop s.offset file) ≡ units_of (framed s.number g b)) where
+    (few : length b ≤ 68157432) (stands : take s.count (drop s.offset file) ≡ units_of (framed_blob s.number g b)) where
   inside : s.offset + s.count ≤ length file
   inside = elim (search_for s.number value.slots) [
     | Nowhere none is' ↦ absurd cc

@@ -2,7 +2,7 @@
 pub use Rattle.rpm_db.specs.laws.Above.{all_above_zero, next_above, nothing_above}
 pub use Rattle.rpm_db.specs.Answers.{ReadAnswer}
 pub use Rattle.rpm_db.specs.Changed.{IsLeft, Makes}
-pub use Rattle.rpm_db.specs.Changes.{Add, apply, Change, changed_number, Erase, IsBetween, IsChangedStill, IsServing, next, Put, ReadsAtMost, Says, with_room}
+pub use Rattle.rpm_db.specs.Changes.{Add, apply, Change, changed_number, Erase, IsBetween, IsChangedStill, IsServing, next, Put, ReadsAtMost, Says}
 pub use Rattle.rpm_db.specs.Database.{Database, database_of, generation_of, has_failed, holds, IsConsistent, IsIndexed, IsCurrentIndex, IsNext}
 pub use Rattle.rpm_db.specs.Database.{KeepsUnits, store_of, without_index}
 pub use Rattle.rpm_db.specs.Frame.{Runs, StaysBetween}
@@ -61,13 +61,11 @@ pub use Rattle.rpm_hindex.specs.Images.{IsSealed, SealedOrSame, VoidOrSame, Void
 pub use Rattle.rpm_hindex.specs.Index.{chain, index_in, records}
 pub use Rattle.rpm_hindex.specs.Plans.{file_after, buckets_after, HasChanged, reach_with, ReachesFor, units_after}
 unfoldable pub use Rattle.rpm_hindex.specs.Plans.{IsPlanFor}
-pub use Rattle.rpm_hindex.specs.Refusals.{IsBad}
 pub use Rattle.rpm_hindex.specs.Rows.{hash_of, no_row, Row, row_nth, same_row, SameRows}
 unfoldable pub use Rattle.rpm_hindex.specs.Rows.{times}
 pub use Rattle.rpm_hindex.specs.Sizes.{units_for}
-pub use Rattle.rpm_hindex.specs.laws.Parts.{record_units}
 unfoldable pub use Rattle.rpm_hindex.specs.Sizes.{bucket_count, is_bucket_count, live_of}
-pub use Rattle.rpm_hindex.specs.State.{buckets_of, is_headed, seal_unit, sealed, IndexState}
+pub use Rattle.rpm_hindex.specs.State.{buckets_of, is_headed, seal_unit, sealed_generation, IndexState}
 unfoldable pub use Rattle.rpm_hindex.specs.State.{is_current, is_in_order, is_ordered}
 pub use Rattle.rpm_hindex.specs.Whole.{IsWellFormed}
 pub use Rattle.rpm_hindex.specs.declared.faults.FindFault.{FindFault}
@@ -101,7 +99,7 @@ pub use Rattle.rpm_pkgdb.specs.Quiet.{Anything, BlobMap, IsQuiet, RepresentsStor
 pub use Rattle.rpm_pkgdb.specs.Slots.{free, is_used, slot_with}
 pub use Rattle.rpm_pkgdb.specs.Stays.{SameOutside}
 pub use Rattle.rpm_pkgdb.specs.Store.{blank_store, in_file, is_blank, KeepsStore, next_number, Store}
-pub use Rattle.rpm_pkgdb.specs.laws.Parts.{made_or_damaged, made_store, unless}
+pub use Rattle.rpm_pkgdb.specs.laws.Parts.{made_or_damaged, made_store, value_or_fault}
 unfoldable pub use Rattle.rpm_pkgdb.specs.Store.{store}
 pub use Rattle.rpm_pkgdb.specs.Words.{begins_with_word, word}
 pub use Rattle.rpm_pkgdb.specs.Written.{without_number, made_new, MakesTo, next_field, RaisesTo, with_generation, with_plan}
@@ -115,10 +113,9 @@ pub use Rattle.rpm_pkgdb.specs.declared.slot.Damage.{Damage}
 pub use Rattle.rpm_pkgdb.specs.declared.slot.OpenFault.{OpenFault}
 pub use Rattle.rpm_pkgdb.specs.declared.slot.Reason.{Reason}
 pub use Rattle.rpm_pkgdb.specs.declared.slot.Slot.{Slot}
-pub use Rattle.rpm_tags.specs.Keys.{key_list}
 pub use Rattle.rpm_tags.specs.Kinds.{code_of}
 pub use Rattle.rpm_tags.specs.declared.kind.Kind.{Kind}
-pub use Rattle.std.specs.List.{filter, flat_map, sum_by}
+pub use Rattle.std.specs.List.{filter, flat_map}
 pub use Rattle.std.specs.Option.{option_map}
 pub use Rattle.std.specs.Ordering.{nat_cmp}
 pub use Rattle.std.specs.declared.alloc.Global.{Global}

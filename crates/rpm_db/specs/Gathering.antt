@@ -25,7 +25,7 @@ use Rattle.rpm_db.specs.Verdicts.{KeepsVerdicts}
 -- the generation at which an index is sealed
 abbrev pub sealed_in : Option hindex.IndexState → ℕ
 sealed_in None = 0
-sealed_in (Some index) = hindex.sealed index.first
+sealed_in (Some index) = hindex.sealed_generation index.first
 
 -- an index that is kept has its first two units in order
 abbrev pub IsOrdered : Option hindex.IndexState → Type 0

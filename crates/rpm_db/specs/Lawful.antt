@@ -8,7 +8,7 @@ use Rattle.rpm_outside.specs.Files.{Units, Files, unit_at, blank}
 use Rattle.rpm_pkgdb.specs.Store.{Store, store, blank_store}
 use Rattle.rpm_hindex.specs.Index.{records}
 use Rattle.rpm_hindex.specs.Rows.{Row, SameRows}
-use Rattle.rpm_hindex.specs.State.{opened_state, sealed, buckets_of, is_current}
+use Rattle.rpm_hindex.specs.State.{opened_state, sealed_generation, buckets_of, is_current}
 use Rattle.rpm_hindex.specs.Whole.{IsWellFormed}
 use Rattle.rpm_db.specs.State.{Package, packages}
 use Rattle.rpm_db.specs.Rows.{rows}
@@ -29,7 +29,7 @@ is_current_at generation idx = is_current generation (opened_state idx)
 -- where the index is current it holds the rows of the packages, and it isn't sealed at a later generation
 pub record Agrees (value : Store) (pkg idx : Units) : Type 0 where
   pub rows_are : is_current_at value.generation idx ≡ true → HasRows (packages pkg value) idx
-  pub no_later : sealed (unit_at idx 0) ≤ value.generation
+  pub no_later : sealed_generation (unit_at idx 0) ≤ value.generation
 
 -- no database was made yet, or the store isn't damaged and the index agrees with it
 abbrev pub IsLawful : Units → Units → Type 0
@@ -45,7 +45,7 @@ AreLawful images = (image : Files) → images image → IsLawful image.pkg image
 pub record IsIndexOf (pkg idx : Units) : Type 0 where
   pub value : Store
   pub undamaged : store pkg ≡ Ok value
-  pub sealed_at : sealed (unit_at idx 0) ≡ value.generation
+  pub sealed_at : sealed_generation (unit_at idx 0) ≡ value.generation
   pub rows_are : HasRows (packages pkg value) idx
 
 -- a list of rows is that of this Packages.db, which has this generation

@@ -37,7 +37,7 @@ pub use Rattle.rpm_db.specs.Database.{is_blank_database, is_indexed, next_packag
 pub use Rattle.rpm_db.specs.Frame.{Runs, RunsOr, packages_in, state_in}
 pub use Rattle.rpm_db.specs.Gathering.{Balances, Gathers, IsGathering, IsLeftSuspended, IsOrdered, HasItsRows, OwesOn}
 pub use Rattle.rpm_db.specs.Gathering.{no_row_changes, resumed_database}
-pub use Rattle.rpm_db.specs.Gathering.{sealed_in, suspended_database, with_rows}
+pub use Rattle.rpm_db.specs.Gathering.{sealed_in, suspended_database}
 pub use Rattle.rpm_db.specs.Inits.{IsEmptyStill, IsInit, IsInitFault, IsThere, IsStoppedByFault}
 pub use Rattle.rpm_db.specs.Lawful.{AreLawful, HasRows, IsOfRows, IsUnsealed, IsWholeIndex}
 pub use Rattle.rpm_db.specs.Lawful.{IsLawfulStill, Remade, StaysLawful, is_current_at}

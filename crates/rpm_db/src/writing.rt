@@ -234,12 +234,12 @@ pub fn fill_index<D: Disk>(
 ) -> Result<(), ChangeFault>
     requires ready { CanFill D.Disk disk.old index.old generation owed }
     ensures filled { OnOk result (IsFilled D.Disk disk.old disk.new index.old index.new generation owed) }
-    ensures full { IfErr result (λ e. (hindex.sealed index.old.first ≡ generation → ⊥) × (IsTrue D.tells
+    ensures full { IfErr result (λ e. (hindex.sealed_generation index.old.first ≡ generation → ⊥) × (IsTrue D.tells
         → (before after : finite.FinMap nat_cmp Package) → HasRows before (D.files disk.old).idx
         → Balances owed (rows before) (rows after) → FullCause (units_for (rows after)) e)) }
     ensures whole { IsTrue D.tells → IsWholeIndex (D.files disk.old).idx → StaysWhole (D.files disk.new).idx result }
     ensures kinds { IfErr result IsOfIndex }
-    ensures unwritten { hindex.sealed index.old.first ≡ generation → disk.new ≡ disk.old }
+    ensures unwritten { hindex.sealed_generation index.old.first ≡ generation → disk.new ≡ disk.old }
     ensures store { IsTrue D.tells → (D.files disk.new).pkg ≡ (D.files disk.old).pkg }
     ensures refused { IfErr result (λ e. IsRefusal e → (index.new ≡ index.old)
         × Runs D.Disk SameFiles disk.old disk.new × (D.moment disk.new ≡ D.moment disk.old)) }

@@ -3,6 +3,8 @@
 use Rattle.std.specs.Prelude.{ℕ, min, Bool, true, Option, Some, None}
 use Rattle.rpm_file.specs.declared.fault.FileFault.{FileFault}
 use Rattle.rpm_file.specs.declared.fault.FileFault.TheVariants as file
+use Rattle.rpm_select.specs.declared.picked.PickFault.{PickFault}
+use Rattle.rpm_select.specs.declared.picked.PickFault.TheVariants as pick
 use Rattle.rpm_effects.specs.declared.tally.Halt.{Halt}
 use Rattle.rpm_effects.specs.declared.tally.Halt.TheVariants as halt
 use Rattle.rpm_group.specs.declared.load.LoadFault.{LoadFault}
@@ -19,6 +21,12 @@ abbrev pub stop_in : FileFault → Option Halt
 stop_in file.ReadFault = Some halt.ShelfFault
 stop_in file.NoMemory = Some halt.NoMemory
 stop_in others = None
+
+-- what halts a command where a picker fails
+abbrev pub halt_of_pick : PickFault → Halt
+halt_of_pick (pick.BadIndex unit) = halt.BadIndex unit
+halt_of_pick pick.DiskFault = halt.DiskFault
+halt_of_pick pick.NoMemory = halt.NoMemory
 
 -- the ending of a command that was halted
 abbrev pub why_of_halt : Halt → Why

@@ -16,4 +16,4 @@ pub use endings::{unless_starved, why_of_load, why_of_open, why_of_recover};
 pub use faults::{push_header_text, put_absent, put_refused, stop_in};
 pub use lines::put_failing;
 pub use pieces::{put_line, put_out, put_pieces};
-pub use tally::{CHANGED, FAILED, Halt, IDLE, Tally};
+pub use tally::{CHANGED, FAILED, Halt, IDLE, Tally, halt_of_pick};

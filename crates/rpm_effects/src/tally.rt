@@ -1,8 +1,9 @@
 //! How a command that changes ends.
 
 ghost use Rattle.std.specs.Prelude.{◌≡◌};
-ghost use Rattle.rpm_effects.specs.Prelude.{NoMemory};
+ghost use Rattle.rpm_effects.specs.Prelude.{halt_of_pick, IsOfPrint, NoMemory};
 
+use rpm_select::PickFault;
 use std::alloc::AllocError;
 
 /// How many arguments of a command failed, and how many changes it made.
@@ -60,5 +61,17 @@ impl From<AllocError> for Halt {
 
     fn from(_: AllocError) -> Halt {
         Halt::NoMemory
+    }
+}
+
+/// What halts a command where a picker fails.
+pub fn halt_of_pick(fault: PickFault) -> Halt
+    ensures value { result ≡ halt_of_pick fault }
+    ensures class { IsOfPrint result }
+{
+    match fault {
+        PickFault::BadIndex { unit } => Halt::BadIndex { unit },
+        PickFault::DiskFault => Halt::DiskFault,
+        PickFault::NoMemory => Halt::NoMemory,
     }
 }

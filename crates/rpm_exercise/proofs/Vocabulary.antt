@@ -21,7 +21,6 @@ pub use Rattle.rpm_change.specs.laws.Reading.{left_read, looks_run, reads_on}
 pub use Rattle.rpm_change.specs.laws.Single.{other_stop}
 pub use Rattle.rpm_change.specs.laws.Telling.{told_all, told_none, told_part}
 pub use Rattle.rpm_db.specs.Asked.{IsAskable}
-pub use Rattle.rpm_db.specs.Changed.{IsReady}
 pub use Rattle.rpm_db.specs.Changes.{Change, next}
 pub use Rattle.rpm_db.specs.Database.{Database, is_indexed}
 pub use Rattle.rpm_db.specs.Frame.{packages_in, Runs, state_in}

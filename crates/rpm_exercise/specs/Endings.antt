@@ -3,23 +3,17 @@ use Rattle.std.specs.Prelude.{◌≡◌, ℕ, Option, Some, None, Result, Ok, Er
 use Rattle.rpm_outside.specs.Files.{Files}
 use Rattle.rpm_db.specs.Reaches.{ReachesMade}
 use Rattle.rpm_select.specs.declared.picked.PickFault.{PickFault}
-use Rattle.rpm_select.specs.declared.picked.PickFault.TheVariants as pick
+use Rattle.rpm_effects.specs.Endings.{halt_of_pick}
 use Rattle.rpm_effects.specs.declared.tally.Tally.{Tally}
 use Rattle.rpm_effects.specs.declared.tally.Halt.{Halt}
 use Rattle.rpm_effects.specs.declared.tally.Halt.TheVariants as halt
 use Rattle.rpm_exercise.specs.declared.running.ExerciseFault.{ExerciseFault}
 use Rattle.rpm_exercise.specs.declared.running.ExerciseFault.TheVariants.{NotEmpty, Halted}
 
--- what a fault of a question makes of the exercise
-abbrev pub pick_halt : PickFault → Halt
-pick_halt (pick.BadIndex unit) = halt.BadIndex unit
-pick_halt pick.DiskFault = halt.DiskFault
-pick_halt pick.NoMemory = halt.NoMemory
-
 -- a question that failed halts the exercise with this
 abbrev pub stop_of : {X : Type 0} → Result X PickFault → Option Halt
 stop_of (Ok x) = None
-stop_of (Err fault) = Some (pick_halt fault)
+stop_of (Err fault) = Some (halt_of_pick fault)
 
 -- what asking a sound index is stopped by
 abbrev pub IsOfQuestion : Halt → Type 0

@@ -24,7 +24,7 @@ pub use Rattle.rpm_select.specs.Frame.{HasKeptRows}
 pub use Rattle.rpm_select.specs.Picks.{entry_in}
 pub use Rattle.rpm_version.specs.Capability.{capability}
 pub use Rattle.sha2.specs.Hashers.{Holds256}
-pub use Rattle.rpm_exercise.specs.Endings.{IsOfQuestion, IsRefused, OnceBegun, HoldsAfterRebuild, pick_halt}
+pub use Rattle.rpm_exercise.specs.Endings.{IsOfQuestion, IsRefused, OnceBegun, HoldsAfterRebuild}
 pub use Rattle.rpm_exercise.specs.Exercised.{capability_line, capability_lines, capability_named, count_line}
 pub use Rattle.rpm_exercise.specs.Exercised.{digest_text, exercise, exported_bytes, IsFound, picked_count, summary}
 pub use Rattle.rpm_exercise.specs.Ready.{ExerciseQuestion, GathersThrough, IsStop, ChangesProgress}

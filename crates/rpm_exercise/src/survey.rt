@@ -1,14 +1,14 @@
 //! What is found of the packages that a question picks.
 
 ghost use Rattle.std.specs.Prelude.{◌≡◌, ◌++◌, ℕ, List, IsTrue, Ok, IfOk};
-ghost use Rattle.rpm_exercise.specs.Prelude.{ExerciseQuestion, capability, capability_named, entry_in, exported_bytes, HasKeptRows, Holds256, IsAskable, IsFound, packages_in, pick_halt, picked_count, result_err};
+ghost use Rattle.rpm_exercise.specs.Prelude.{ExerciseQuestion, capability, capability_named, entry_in, exported_bytes, HasKeptRows, Holds256, IsAskable, IsFound, packages_in, picked_count, result_err};
 ghost use Rattle.rpm_select.specs.declared.selection.Selection.TheVariants as question;
 
 use rpm_db::Db;
-use rpm_effects::Halt;
+use rpm_effects::{Halt, halt_of_pick};
 use rpm_header::MAGIC;
 use rpm_outside::Disk;
-use rpm_select::{Capability, PickFault, Picked, Picker, Selection};
+use rpm_select::{Capability, Picked, Picker, Selection};
 use sha2::{Digest, Sha256};
 use std::alloc::Global;
 
@@ -17,17 +17,6 @@ use std::alloc::Global;
 pub struct Found {
     pub count: u32,
     pub digest: [u8; 32],
-}
-
-/// What a fault of a picker makes of the exercise.
-fn halt_of(fault: PickFault) -> Halt
-    ensures { result ≡ pick_halt fault }
-{
-    match fault {
-        PickFault::BadIndex { unit } => Halt::BadIndex { unit },
-        PickFault::DiskFault => Halt::DiskFault,
-        PickFault::NoMemory => Halt::NoMemory,
-    }
 }
 
 /// Feeds a package as it is exported.
@@ -56,7 +45,7 @@ pub fn survey<D: Disk>(
 {
     let mut picker = match Picker::new(alloc, db, disk, selection) {
         Ok(picker) => picker,
-        Err(fault) => return Err(halt_of(fault)),
+        Err(fault) => return Err(halt_of_pick(fault)),
     };
     let mut hasher = Sha256::new();
     let mut number = 0;
@@ -72,7 +61,7 @@ pub fn survey<D: Disk>(
                 let digest = hasher.finalize();
                 return Ok(Found { count, digest });
             }
-            Err(fault) => return Err(halt_of(fault)),
+            Err(fault) => return Err(halt_of_pick(fault)),
         }
     }
 }

@@ -1,7 +1,7 @@
 -- A header of a list, read in two pieces.
 use Rattle.std.proofs.Common.{◌≡◌, ℕ, ◌+◌, ◌-◌, ◌*◌, ◌≤◌, ◌<◌, List, [], ◌∷◌, ◌++◌, Option, Some, None, Result, Ok, Err, length, take, drop, true, false, Bool, refl, sym, ap, subst, ◌∙◌, arith, length-append, append_assoc, le-ltb, lt-ltb}
 use Rattle.std.specs.Prelude.{nat_lt, not, if◌then◌else◌, nat_eq, is_some}
-use Rattle.rpm_file.proofs.Vocabulary.{AnswersBehind, AnswersNextIn, Fills, front_header, IsListFault, IsOutsideList, bytes_left}
+use Rattle.rpm_file.proofs.Vocabulary.{AnswersBehind, AnswersNextIn, Fills, front_header, IsListFault, bytes_left}
 use Rattle.std.specs.List.{starts_with}
 use Rattle.rpm_file.proofs.Vocabulary.{list_head, ListFault, magic, number_at, number_longer, pointwise, size_in, found_of_size, some_found, Takes, w32}
 use Rattle.std.proofs.lemmas.List.{take-append-le, take_all, take_at, drop_at, drop-append-le, drop-drop, length-take, length-drop}
@@ -93,14 +93,6 @@ head_short bytes some few =
     head_some bytes some ∙ rw short refl
 
 -- ---- faults
-
-pub outside_fault : {X : Type 0} (found : Result X ListFault) (e : ListFault) → IsOutsideList e → IsListFault found e
-outside_fault found fault.ReadFault out = tt
-outside_fault found fault.NoMemory out = tt
-outside_fault found fault.Short out = absurd out
-outside_fault found fault.BadMagic out = absurd out
-outside_fault found fault.TooManyEntries out = absurd out
-outside_fault found fault.TooMuchData out = absurd out
 
 -- a fault that the definition has
 pub told_fault : {X : Type 0} (found : Result X ListFault) (e : ListFault) → found ≡ Err e → IsListFault found e

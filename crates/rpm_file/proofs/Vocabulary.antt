@@ -14,7 +14,7 @@ pub use Rattle.rpm_file.specs.declared.fault.HeaderKind.{HeaderKind}
 pub use Rattle.rpm_file.specs.declared.fault.ListFault.{ListFault}
 pub use Rattle.rpm_file.specs.inner.Chain.{after_signature, headed_of, is_lead, joined_by, lead_magic, main_at, or_fault_in, signature_at, with_rest}
 unfoldable pub use Rattle.rpm_file.specs.inner.Chain.{behind_signature}
-pub use Rattle.rpm_file.specs.inner.Filling.{Extends, Fills, IsOutsideList}
+pub use Rattle.rpm_file.specs.inner.Filling.{Extends, Fills}
 pub use Rattle.rpm_file.specs.inner.Joining.{dribble_as, dribbles, has_tag, HasIndexBytes, HasTags, JoinsUnder, made_fault, passes_limits}
 pub use Rattle.rpm_file.specs.inner.Parts.{AnswersBehind, AnswersBytes, AnswersMade, AnswersSkip, AnswersTake, IsMadeFault}
 pub use Rattle.rpm_file.specs.laws.Lists.{found_of_size, some_found}

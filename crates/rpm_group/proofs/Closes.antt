@@ -3,7 +3,7 @@ use Rattle.std.proofs.Common.{◌≡◌, ⊎_elim, ℕ, ◌<◌, List, [], ◌�
 use Rattle.rpm_outside.specs.declared.disk.Disk as disk
 use Rattle.rpm_group.proofs.Vocabulary.{blank_closed, Closed, closing, Elapses, entries_done, entries_log, Entry, Files, first_unit, is_blank_unit, IsOpen}
 use Rattle.rpm_group.proofs.Vocabulary.{IsSound, leaves_weaker, CrashLeavesOnly, Log, log_not_log, log_state, LogState, NotLog, one_more, OnlyAfter, Open, with_units}
-use Rattle.rpm_group.proofs.Vocabulary.{reopened, reopened_open, reopened_within, ReopensAs, started, torn_first, TornFile, unit_at, Units, without_log}
+use Rattle.rpm_group.proofs.Vocabulary.{reopened_files, reopened_open, reopened_within, ReopensAs, started, torn_first, TornFile, unit_at, Units, without_log}
 use Rattle.rpm_group.proofs.Vocabulary.{unlogged_entries, WasWithin, with_entries, with_file, Within, within_log}
 
 -- a log that is closed or open isn't malformed
@@ -37,7 +37,7 @@ module _ {D : Type 0} (g : disk.Ghosts D) where
   closing_leaves old new files unit entries blank some is done durable images time =
       one_more g old old new (ReopensAs (without_log files))
       (started g old (ReopensAs (without_log files)) (λ image left. record {
-        same = ap reopened (durable image left) ∙ reopened_open files entries is ∙ done;
+        same = ap reopened_files (durable image left) ∙ reopened_open files entries is ∙ done;
         sound = open_sound image.log entries (ap (λ (f : Files). log_state f.log) (durable image left) ∙ is);
       }))
       time
@@ -53,9 +53,9 @@ module _ {D : Type 0} (g : disk.Ghosts D) where
   pub written_leaves : (old new : D) (files : Files) (entries : List Entry) → log_state files.log ≡ Open entries
       → ((image : Files) → g.left_since old (g.moment old) image → image ≡ files)
       → CrashLeavesOnly g old new (WasWithin entries (g.left_since old (g.moment old)))
-      → CrashLeavesOnly g old new (ReopensAs (reopened files))
+      → CrashLeavesOnly g old new (ReopensAs (reopened_files files))
   written_leaves old new files entries is durable run =
-      leaves_weaker g old new (WasWithin entries (g.left_since old (g.moment old))) (ReopensAs (reopened files))
+      leaves_weaker g old new (WasWithin entries (g.left_since old (g.moment old))) (ReopensAs (reopened_files files))
       (λ image was.
       let within : Within entries files image = subst (λ (f : Files). Within entries f image) (durable was.0 was.1) was.2 in
       record {
@@ -103,5 +103,5 @@ module _ (files mid : Files) (entries : List Entry) (is : log_state files.log �
   pub mid_done : with_entries entries (without_log mid) ≡ without_log mid
   mid_done = ap (λ (f : Files). with_entries entries (without_log f)) written ∙ entries_done entries files not ∙ ap without_log (sym written)
 
-  pub mid_stands : without_log mid ≡ reopened files
+  pub mid_stands : without_log mid ≡ reopened_files files
   mid_stands = ap without_log written ∙ unlogged_entries entries files not ∙ sym (reopened_open files entries is)

@@ -3,7 +3,7 @@ use Rattle.std.proofs.Common.{◌≡◌, inl, inr, ⊎_elim, ℕ, ◌+◌, ◌<�
 use Rattle.rpm_outside.specs.declared.disk.Disk as disk
 use Rattle.rpm_group.proofs.Vocabulary.{BeforeOrAfter, changed_leaves_more, changed_leaves_then, IsChangedInRange, Closed, Elapses, entries_kept, entries_then}
 use Rattle.rpm_group.proofs.Vocabulary.{EntriesIn, Entry, Files, HeadsEndInZeros, Idx, IsCommitRecord, IsTransaction, laid_units, Layers, CrashChanges, CrashLeavesOnly, Log}
-use Rattle.rpm_group.proofs.Vocabulary.{log_state, EntriesOfTable, one_more, OnlyAfter, Open, opened_is, Pkg, with_units, reopened, reopened_closed, reopened_open}
+use Rattle.rpm_group.proofs.Vocabulary.{log_state, EntriesOfTable, one_more, OnlyAfter, Open, opened_is, Pkg, with_units, reopened_files, reopened_closed, reopened_open}
 use Rattle.rpm_group.proofs.Vocabulary.{ReopensAs, started, torn_first, TornFile, without_log, with_entries, with_file}
 use Rattle.rpm_group.proofs.Applied.{with_entries-append}
 use Rattle.rpm_group.proofs.LoggedLaws.{covers_before, covers_behind}
@@ -50,7 +50,7 @@ heads_of es fs middle upto first last placed one two changed =
 
 closed_reopens : (image files : Files) → image ≡ files → log_state files.log ≡ Closed → ReopensAs (without_log files) image
 closed_reopens image files same closed = record {
-  same = ap reopened same ∙ reopened_closed files closed;
+  same = ap reopened_files same ∙ reopened_closed files closed;
   sound = closed_sound image.log (ap (λ (f : Files). log_state f.log) same ∙ closed);
 }
 

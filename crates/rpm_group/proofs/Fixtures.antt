@@ -1,6 +1,6 @@
 -- The definitions of the log, computed on small logs: what they say doesn't come from the code.
 use Rattle.std.specs.Prelude.{◌≡◌, ℕ, List, [], ◌∷◌, refl, replicate}
-use Rattle.rpm_group.proofs.Vocabulary.{blank, Closed, entry_at, heads, is_commit_record, is_log_head, log_state, Malformed, Open, Pkg, with_units, reopened, word}
+use Rattle.rpm_group.proofs.Vocabulary.{blank, Closed, entry_at, heads, is_commit_record, is_log_head, log_state, Malformed, Open, Pkg, with_units, reopened_files, word}
 
 -- `RpmL`, version 1, so many entries, the last unit
 commit_record : ℕ → ℕ → List ℕ
@@ -71,13 +71,13 @@ ends_too_early = refl
 -- ---- what files represent
 
 -- what is after the last unit counts for nothing, and the later of two entries wins
-later_wins : reopened (record { pkg = []; idx = full 1 ∷ []; log = commit_record 2 4 ∷ head 1 0 1 ∷ full 7 ∷ head 1 0 1 ∷ full 8 ∷ full 9 ∷ [] })
+later_wins : reopened_files (record { pkg = []; idx = full 1 ∷ []; log = commit_record 2 4 ∷ head 1 0 1 ∷ full 7 ∷ head 1 0 1 ∷ full 8 ∷ full 9 ∷ [] })
     ≡ record { pkg = full 8 ∷ []; idx = full 1 ∷ []; log = [] }
 unfolding commit_record head full log_state is_commit_record heads is_log_head entry_at word with_units
 later_wins = refl
 
 -- units between are zeros
-behind_the_end : reopened (record { pkg = full 1 ∷ []; idx = []; log = commit_record 1 2 ∷ head 2 2 1 ∷ full 7 ∷ [] }) ≡ record {
+behind_the_end : reopened_files (record { pkg = full 1 ∷ []; idx = []; log = commit_record 1 2 ∷ head 2 2 1 ∷ full 7 ∷ [] }) ≡ record {
   pkg = full 1 ∷ [];
   idx =
       blank ∷ blank ∷ full 7 ∷ [];
@@ -86,6 +86,6 @@ behind_the_end : reopened (record { pkg = full 1 ∷ []; idx = []; log = commit_
 unfolding commit_record head full log_state is_commit_record heads is_log_head entry_at word with_units blank
 behind_the_end = refl
 
-malformed_stays : reopened (record { pkg = full 1 ∷ []; idx = []; log = commit_record 1 5 ∷ [] }) ≡ record { pkg = full 1 ∷ []; idx = []; log = [] }
+malformed_stays : reopened_files (record { pkg = full 1 ∷ []; idx = []; log = commit_record 1 5 ∷ [] }) ≡ record { pkg = full 1 ∷ []; idx = []; log = [] }
 unfolding commit_record full log_state is_commit_record word
 malformed_stays = refl

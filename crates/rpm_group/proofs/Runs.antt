@@ -1,14 +1,11 @@
 -- Runs of held units.
-use Rattle.std.proofs.Common.{◌≡◌, inl, inr, ℕ, ◌+◌, ◌-◌, ◌<◌, ◌≤◌, List, [], ◌∷◌, ◌++◌, length, refl, sym, ap, ◌∙◌, arith, length-append}
+use Rattle.std.proofs.Common.{◌≡◌, inl, inr, ℕ, ◌+◌, ◌-◌, ◌<◌, ◌≤◌, [], ◌∷◌, ◌++◌, length, refl, sym, ap, ◌∙◌, arith, length-append}
 use Rattle.std.specs.Prelude.{unwrap_or}
 use Rattle.std.proofs.lemmas.List.{get_or_past, get_or_append_left, get_or-append_right}
 use Rattle.std.proofs.lemmas.List.FromFn.{length-map-range_with_len, get_or-map-range_with_len}
 use Rattle.std.proofs.lemmas.Bool.{cases_lt}
 use Rattle.rpm_group.proofs.Vocabulary.{blank, File, file_of, file_of-with, Files, held_at, with_units, put_some, put_some_append, put_some_is, same_units, Table}
 use Rattle.rpm_group.proofs.Vocabulary.{unit_at, Units, units_held, with_file, with_file-with_file}
-
-held_unit : Table → ℕ → List ℕ
-held_unit table i = unwrap_or (held_at table i) blank
 
 pub length-units_held : (table : Table) (from n : ℕ) → length (units_held table from n) ≡ n
 unfolding units_held

@@ -2,7 +2,7 @@
 use Rattle.std.proofs.Common.{◌≡◌, inl, inr, ⊎_elim, ℕ, ◌≤◌, List, refl, ap, subst, ◌∙◌, arith}
 use Rattle.rpm_outside.specs.declared.disk.Disk as disk
 use Rattle.rpm_group.proofs.Vocabulary.{BeforeOrAfter, blank_closed, IsChangedInRange, Closed, closed_blank, Entry, Files, is_blank_unit, IsTransaction, Layers, leaves_then}
-use Rattle.rpm_group.proofs.Vocabulary.{leaves_weaker, CrashChanges, CrashLeavesOnly, Log, log_state, Open, reopened, reopened_closed, reopened_open, ReopensAs}
+use Rattle.rpm_group.proofs.Vocabulary.{leaves_weaker, CrashChanges, CrashLeavesOnly, Log, log_state, Open, reopened_files, reopened_closed, reopened_open, ReopensAs}
 use Rattle.rpm_group.proofs.Vocabulary.{without_log, WasChanged, WasWithin, with_entries, with_held}
 use Rattle.rpm_group.proofs.Closes.{written_leaves, closed_sound}
 
@@ -46,7 +46,7 @@ module _ (held : Layers) (files first : Files) (same : without_log first ≡ wit
   entries_same entries transaction = transaction.whole (without_log first) ∙ held_same
 
   pub reopened_same : (entries : List Entry) → IsTransaction entries held → log_state first.log ≡ Open entries
-      → reopened first ≡ without_log (with_held held files)
+      → reopened_files first ≡ without_log (with_held held files)
   reopened_same entries transaction is = reopened_open first entries is ∙ entries_same entries transaction
 
 -- a file isn't in the transaction's log
@@ -77,7 +77,7 @@ module _ {D : Type 0} (g : disk.Ghosts D) (held : Layers) (files : Files) where
       → CrashLeavesOnly g mid new (WasWithin entries (g.left_since mid (g.moment mid))) → CrashLeavesOnly g old new BOA
   stage_three old mid new second entries so_far same transaction is durable run =
       leaves_then g old mid new BOA so_far
-      (after_leaves g (without_log files) (without_log (with_held held files)) mid new (reopened second)
+      (after_leaves g (without_log files) (without_log (with_held held files)) mid new (reopened_files second)
       (reopened_same held files second same entries transaction is) (written_leaves g mid new second entries is durable run))
 
   pub stage_four : (old mid new : D) (second third : Files) → CrashLeavesOnly g old mid BOA → without_log second ≡ without_log files

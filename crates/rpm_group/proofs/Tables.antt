@@ -1,7 +1,7 @@
 -- What is held in a table of which one page was put, and units that are held page by page.
 use Rattle.std.proofs.Common.{◌≡◌, ◌⊎◌, inl, inr, ⊎_elim, ℕ, ◌+◌, ◌-◌, ◌*◌, ◌/◌, ◌%◌, ◌<◌, ◌≤◌, List, [], ◌∷◌, ◌++◌, length, take, drop, map, get_or, set, sym, ap, ◌∙◌, arith, get_or-set_same, get_or-set_other}
-use Rattle.std.specs.Prelude.{Option, Some, None, Box, true, is_some}
-use Rattle.rpm_group.proofs.Vocabulary.{Global, held_at, HoldsUnits, in_page, in_paged, KeepsPages, Leaf, LeafKeeps, LeafSame, LeafWrote, Page, page_at, page_in}
+use Rattle.std.specs.Prelude.{Option, Some, None, Box, is_some}
+use Rattle.rpm_group.proofs.Vocabulary.{Global, held_at, HoldsUnits, in_paged, KeepsPages, Leaf, LeafKeeps, LeafSame, LeafWrote, Page, page_at, page_in}
 use Rattle.rpm_group.proofs.Vocabulary.{SameHeld, SamePages, Table, unit_in}
 use Rattle.std.proofs.lemmas.List.{length-take, length-drop, length-map, map-append, map-set, get_or-map, get_or_append_left, get_or_past, length_push, get_or_push, get_or-take, get_or-drop, same_lists}
 use Rattle.std.proofs.lemmas.Bool.{cases_lt, cases_eq, cases_order}
@@ -40,27 +40,6 @@ same_held old new same i = ap (λ (p : Option (Box Page Global)). in_paged p (i 
 pub held_here : (table : Table) (q i : ℕ) → i / 256 ≡ q → held_at table i ≡ in_paged (page_at table q) (i % 256)
 unfolding held_at
 held_here table q i is = ap (λ (p : ℕ). in_paged (page_at table p) (i % 256)) is
-
--- a page of which nothing is held, where there was none
-module _ (pages : List (Option (Box Page Global))) (k : ℕ) (page : Box Page Global) (below : k < length pages) where
-  pub leaf_added : get_or pages k None ≡ None → ((m : ℕ) → in_page page.value m ≡ None) → (j m : ℕ)
-      → in_paged (get_or (set pages k (Some page)) j None) m ≡ in_paged (get_or pages j None) m
-  leaf_added none nothing j m = elim (cases_eq j k) [
-    | inl same ↦
-        ap (λ (i : ℕ). in_paged (get_or (set pages k (Some page)) i None) m) same
-        ∙ ap (λ (p : Option (Box Page Global)). in_paged p m) (get_or-set_same pages k (Some page) None below)
-        ∙ nothing m
-        ∙ sym (ap (λ (p : Option (Box Page Global)). in_paged p m) none)
-        ∙ sym (ap (λ (i : ℕ). in_paged (get_or pages i None) m) same)
-    | inr other ↦ ap (λ (p : Option (Box Page Global)). in_paged p m) (get_or-set_other pages k j (Some page) None other)
-  ]
-
-  pub leaf_kept : (j : ℕ) → is_some (get_or pages j None) ≡ true → is_some (get_or (set pages k (Some page)) j None) ≡ true
-  leaf_kept j there = elim (cases_eq j k) [
-    | inl same ↦
-        ap (λ (i : ℕ). is_some (get_or (set pages k (Some page)) i None)) same ∙ ap is_some (get_or-set_same pages k (Some page) None below)
-    | inr other ↦ ap is_some (get_or-set_other pages k j (Some page) None other) ∙ there
-  ]
 
 -- a leaf in place of another
 module _ (table : Table) (g : ℕ) (old new : Leaf) (below : g < length table) (is : old ≡ get_or table g old) where

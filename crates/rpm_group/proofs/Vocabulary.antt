@@ -9,7 +9,7 @@ pub use Rattle.rpm_group.specs.Loads.{IsSound}
 pub use Rattle.rpm_group.specs.laws.LogReads.{nothing_none, nothing_then, reads_none, reads_then, ReadsLog, ReadsNothing}
 pub use Rattle.rpm_group.specs.Orders.{AreRuns, HeadsEndInZeros, IsLogged}
 pub use Rattle.rpm_group.specs.Readings.{entries_of, IsOpen}
-pub use Rattle.rpm_group.specs.Crashes.{RecoverKeeps, ReopensAs, ReopensAsOneOf}
+pub use Rattle.rpm_group.specs.Crashes.{ReopensAs, ReopensAsOneOf}
 pub use Rattle.rpm_group.specs.Spared.{CountsRead, spared_of}
 pub use Rattle.rpm_group.specs.declared.transaction.Tail.{Tail}
 pub use Rattle.rpm_group.specs.declared.layers.Layers.{Layers}
@@ -18,8 +18,6 @@ pub use Rattle.rpm_group.specs.declared.log.Reading.{Reading}
 pub use Rattle.rpm_group.specs.declared.log.Reading.TheVariants.{Opened}
 pub use Rattle.rpm_group.specs.declared.page.Page.{Page}
 pub use Rattle.rpm_group.specs.declared.pages.Pages.{Pages}
-pub use Rattle.rpm_group.specs.declared.recovery.RecoverFault.{RecoverFault}
-pub use Rattle.rpm_group.specs.declared.recovery.RecoverFault.TheVariants.{BadLog, DiskFault}
 pub use Rattle.rpm_group.specs.declared.spared.Spared.{Spared}
 pub use Rattle.rpm_group.specs.inner.Entries.{IsTransaction, IsTail, with_held}
 pub use Rattle.rpm_group.specs.inner.HeldUnits.{AreHeld}
@@ -37,7 +35,7 @@ pub use Rattle.rpm_outside.specs.Entries.{Covers, HasUnit, Within}
 pub use Rattle.rpm_outside.specs.Files.{cases_file, file_of, Files, unit_at, Units, units_of, with_file}
 unfoldable pub use Rattle.rpm_outside.specs.Files.{blank, with_units}
 pub use Rattle.rpm_outside.specs.LogWrites.{EntriesIn, EntryIn, IsCommitRecord, number_of_file}
-pub use Rattle.rpm_outside.specs.Logs.{before, Closed, Entry, is_blank_unit, LogState, Malformed, Open, reopened, without_log, with_entries, with_entry}
+pub use Rattle.rpm_outside.specs.Logs.{before, Closed, Entry, is_blank_unit, LogState, Malformed, Open, reopened_files, without_log, with_entries, with_entry}
 unfoldable pub use Rattle.rpm_outside.specs.Logs.{entry_at, heads, is_commit_record, is_log_head, log_state}
 pub use Rattle.rpm_outside.specs.Looks.{OnlyReadsFile}
 pub use Rattle.rpm_outside.specs.Words.{unit_of_words}

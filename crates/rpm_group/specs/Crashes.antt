@@ -1,7 +1,7 @@
 -- What a crash may leave of a disk, seen by what its files stand for.
 use Rattle.std.specs.Prelude.{◌≡◌, Bool, Result, Ok, Err, true, false}
 use Rattle.rpm_outside.specs.Files.{Files}
-use Rattle.rpm_outside.specs.Logs.{LogState, Closed, Malformed, Open, log_state, reopened}
+use Rattle.rpm_outside.specs.Logs.{LogState, Closed, Malformed, Open, log_state, reopened_files}
 use Rattle.rpm_group.specs.Loads.{IsSound}
 use Rattle.rpm_group.specs.Readings.{IsOpen}
 use Rattle.rpm_group.specs.declared.recovery.RecoverFault.{RecoverFault}
@@ -9,7 +9,7 @@ use Rattle.rpm_group.specs.declared.recovery.RecoverFault.TheVariants.{BadLog, D
 
 -- an image represents these files, and its log isn't malformed
 pub record ReopensAs (files image : Files) : Type 0 where
-  pub same : reopened image ≡ files
+  pub same : reopened_files image ≡ files
   pub sound : IsSound (log_state image.log)
 
 -- files that came of others: a malformed log stays with the files beside it, and no other log becomes malformed
@@ -22,7 +22,7 @@ KeepsLog old new = elim (log_state old.log) [
 
 -- an image represents what another represents, and keeps that one's log
 pub record RepresentsSame (from image : Files) : Type 0 where
-  pub same : reopened image ≡ reopened from
+  pub same : reopened_files image ≡ reopened_files from
   pub log : KeepsLog from image
 
 -- an image represents what one of these represents, and keeps that one's log

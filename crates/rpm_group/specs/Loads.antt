@@ -1,6 +1,6 @@
 -- What loading answers.
 use Rattle.std.specs.Prelude.{◌≡◌, Result, Ok, Err}
-use Rattle.rpm_outside.specs.Logs.{LogState, Closed, Malformed, Open}
+use Rattle.rpm_outside.specs.Logs.{LogState, Malformed}
 use Rattle.rpm_group.specs.declared.load.LoadFault.{LoadFault}
 use Rattle.rpm_group.specs.declared.load.LoadFault.TheVariants.{BadLog, DiskFault, NoMemory}
 

@@ -33,7 +33,7 @@ pub use Rattle.rpm_outside.specs.Frame.{DiskFault, CrashChanges, CrashLeaves, On
 pub use Rattle.rpm_outside.specs.Frame.{ReadsAtOr, images}
 pub use Rattle.rpm_outside.specs.LogWrites.{EntriesIn, number_of_file}
 pub use Rattle.rpm_outside.specs.Logs.{Closed, Entry, Open, is_blank_unit, is_commit_record, is_log_head, log_state}
-pub use Rattle.rpm_outside.specs.Logs.{reopened, without_log, with_entries}
+pub use Rattle.rpm_outside.specs.Logs.{reopened_files, without_log, with_entries}
 pub use Rattle.rpm_outside.specs.Words.{unit_of_words, word}
 pub use Rattle.rpm_outside.specs.declared.disk.File.{File}
 pub use Rattle.rpm_outside.specs.declared.disk.File.TheVariants.{Log}

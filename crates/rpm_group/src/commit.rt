@@ -1,7 +1,7 @@
 //! What an overlay holds becomes one change of the disk below.
 
 ghost use Rattle.std.specs.Prelude.{◌≡◌, ◌⊎◌, ◌↔◌, ℕ, ◌+◌, ◌-◌, ◌*◌, ◌/◌, ◌%◌, ◌<◌, ◌≤◌, ◌^◌, IsTrue, length, Ok, Err, OnOk, OnErr, IfOk, IfErr, List};
-ghost use Rattle.rpm_group.specs.Prelude.{AreDurable, BeforeOrAfter, IsChangedInRange, Closed, CommitSays, CoversHeld, DiskFault, Entry, file_of, Files, images, IsCommit, IsLogFull, IsTransaction, IsLogged, IsDurable, IsTail, KeepsBehind, CrashChanges, CrashLeaves, log_state, needed_units, OnlyReadsLog, OnlyReadsLogOr, Open, overlay_below, overlay_held, overlay_starved, ReadsNothing, reopened, runs_of, units_of_log, without_log, IsUntouched, Unwritten, WasWithin, with_entries, with_file, with_held};
+ghost use Rattle.rpm_group.specs.Prelude.{AreDurable, BeforeOrAfter, IsChangedInRange, Closed, CommitSays, CoversHeld, DiskFault, Entry, file_of, Files, images, IsCommit, IsLogFull, IsTransaction, IsLogged, IsDurable, IsTail, KeepsBehind, CrashChanges, CrashLeaves, log_state, needed_units, OnlyReadsLog, OnlyReadsLogOr, Open, overlay_below, overlay_held, overlay_starved, ReadsNothing, reopened_files, runs_of, units_of_log, without_log, IsUntouched, Unwritten, WasWithin, with_entries, with_file, with_held};
 
 use crate::layers::Layers;
 use crate::overlay::Overlay;

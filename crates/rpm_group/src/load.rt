@@ -1,7 +1,7 @@
 //! An overlay that holds the change of an open log.
 
 ghost use Rattle.std.specs.Prelude.{◌≡◌, ℕ, ◌+◌, ◌*◌, ◌/◌, ◌%◌, ◌<◌, ◌≤◌, ◌^◌, IsTrue, length, take, drop, Err, None, OnOk, IfOk, IfErr};
-ghost use Rattle.rpm_group.specs.Prelude.{disk_after, DiskFault, entries_of, file_of, Files, FitsAt, HasCauseAt, heads_behind, IsDiskFault, IsLoaded, IsOpen, IsOutsideLog, laid_files, LoadedSays, LoadSays, Log, log_state, OnlyReadsFile, overlay_below, overlay_held, with_units, ReadsAtOr, reopened, unit_at, with_entries, with_file};
+ghost use Rattle.rpm_group.specs.Prelude.{disk_after, DiskFault, entries_of, file_of, Files, FitsAt, HasCauseAt, heads_behind, IsDiskFault, IsLoaded, IsOpen, IsOutsideLog, laid_files, LoadedSays, LoadSays, Log, log_state, OnlyReadsFile, overlay_below, overlay_held, with_units, ReadsAtOr, reopened_files, unit_at, with_entries, with_file};
 
 use crate::layers::{Layers, no_layers};
 use crate::log::{CommitRecord, Reading, read_head, read_log};
@@ -112,7 +112,7 @@ fn hold_entries<D: Disk>(
 pub fn hold_log<D: Disk>(alloc: Global, disk: &mut D, held: &mut Layers) -> Result<(), LoadFault>
     requires { (files : Files) → laid_files held.old files ≡ files }
     ensures held { OnOk result (IsTrue D.tells → laid_files held.new (D.files disk.old)
-        ≡ with_file File.Log (D.files disk.old).log (reopened (D.files disk.old))) }
+        ≡ with_file File.Log (D.files disk.old).log (reopened_files (D.files disk.old))) }
     ensures entries { OnOk result (IsTrue D.tells → (files : Files)
         → laid_files held.new files ≡ with_entries (entries_of (log_state (D.files disk.old).log)) files) }
     ensures says { IsTrue D.tells → LoadSays (log_state (D.files disk.old).log) result }
@@ -148,7 +148,7 @@ impl<D: Disk> Overlay<D> {
         ensures loaded { IfOk result (λ overlay. IsLoaded overlay) }
         ensures files { IfOk result (λ overlay. IsTrue D.tells
             → laid_files (overlay_held overlay) (D.files (overlay_below overlay))
-            ≡ with_file File.Log (D.files disk).log (reopened (D.files disk))) }
+            ≡ with_file File.Log (D.files disk).log (reopened_files (D.files disk))) }
         ensures entries { IfOk result (λ overlay. IsTrue D.tells → (files : Files)
             → laid_files (overlay_held overlay) files
             ≡ with_entries (entries_of (log_state (D.files disk).log)) files) }

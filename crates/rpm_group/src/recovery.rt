@@ -1,7 +1,7 @@
 //! What a crash left of a change is finished.
 
 ghost use Rattle.std.specs.Prelude.{◌≡◌, ◌↔◌, ℕ, ◌+◌, ◌*◌, ◌/◌, ◌%◌, ◌<◌, ◌≤◌, ◌^◌, IsTrue, length, take, drop, Ok, Err, None, true, OnOk, IfOk, IfErr};
-ghost use Rattle.rpm_group.specs.Prelude.{AreDurable, Closed, DiskFault, entries_of, file_of, Files, FitsAt, heads_behind, images, IsHead, IsOpen, IsDurable, KeepsBehind, CrashChanges, CrashLeaves, Log, log_state, OnlyReadsLog, OnlyReadsLogOr, with_units, ReadsLog, RecoverKeeps, RecoverSays, reopened, ReopensAs, ReopensAsOneOf, unit_at, without_log, WasWithin, with_entries, with_file, Within};
+ghost use Rattle.rpm_group.specs.Prelude.{AreDurable, Closed, DiskFault, entries_of, file_of, Files, FitsAt, heads_behind, images, IsHead, IsOpen, IsDurable, KeepsBehind, CrashChanges, CrashLeaves, Log, log_state, OnlyReadsLog, OnlyReadsLogOr, with_units, ReadsLog, RecoverKeeps, RecoverSays, reopened_files, ReopensAs, ReopensAsOneOf, unit_at, without_log, WasWithin, with_entries, with_file, Within};
 
 use crate::log::{CommitRecord, Reading, read_head, read_log};
 use rpm_outside::{Disk, Failed, File};
@@ -160,9 +160,9 @@ fn finish<D: Disk>(disk: &mut D, commit_record: CommitRecord) -> Result<bool, Re
     ensures done { IfOk result (λ was_open. was_open ≡ true) }
     ensures fault { IfErr result (λ fault. IsTrue D.tells → fault ≡ RecoverFault.DiskFault) }
     ensures closed { OnOk result (IsTrue D.tells → log_state (D.files disk.new).log ≡ Closed) }
-    ensures files { OnOk result (IsTrue D.tells → without_log (D.files disk.new) ≡ reopened (D.files disk.old)) }
+    ensures files { OnOk result (IsTrue D.tells → without_log (D.files disk.new) ≡ reopened_files (D.files disk.old)) }
     ensures durable { OnOk result (IsTrue D.tells → AreDurable (D.files disk.new) (images D.Disk disk.new)) }
-    ensures images { IsTrue D.tells → CrashLeaves D.Disk disk.old disk.new (ReopensAs (reopened (D.files disk.old))) }
+    ensures images { IsTrue D.tells → CrashLeaves D.Disk disk.old disk.new (ReopensAs (reopened_files (D.files disk.old))) }
     ensures behind { IsTrue D.tells → CrashLeaves D.Disk disk.old disk.new (λ image. KeepsBehind 1 (D.files disk.old).log image.log) }
     ensures reads { OnlyReadsLogOr D.Disk (result ≡ Err RecoverFault.DiskFault) disk.old disk.new }
 {
@@ -191,9 +191,9 @@ pub fn recover<D: Disk>(disk: &mut D) -> Result<bool, RecoverFault>
     ensures says { IsTrue D.tells → RecoverSays (log_state (D.files disk.old).log) result }
     ensures kept { IsTrue D.tells → RecoverKeeps (log_state (D.files disk.old).log) (D.files disk.old) (D.files disk.new) }
     ensures closed { OnOk result (IsTrue D.tells → log_state (D.files disk.new).log ≡ Closed) }
-    ensures files { OnOk result (IsTrue D.tells → without_log (D.files disk.new) ≡ reopened (D.files disk.old)) }
+    ensures files { OnOk result (IsTrue D.tells → without_log (D.files disk.new) ≡ reopened_files (D.files disk.old)) }
     ensures durable { OnOk result (IsTrue D.tells → AreDurable (D.files disk.new) (images D.Disk disk.new)) }
-    ensures stands { IsTrue D.tells → reopened (D.files disk.new) ≡ reopened (D.files disk.old) }
+    ensures stands { IsTrue D.tells → reopened_files (D.files disk.new) ≡ reopened_files (D.files disk.old) }
     ensures images { IsTrue D.tells → CrashLeaves D.Disk disk.old disk.new (ReopensAsOneOf (images D.Disk disk.old)) }
     ensures behind { IsTrue D.tells → CrashLeaves D.Disk disk.old disk.new
         (λ image. (from : Files) × images D.Disk disk.old from × KeepsBehind 1 from.log image.log) }

@@ -1,7 +1,7 @@
 //! What is held is written as one change: to the log, and from memory to the files.
 
 ghost use Rattle.std.specs.Prelude.{◌≡◌, ◌⊎◌, ℕ, ◌+◌, ◌-◌, ◌*◌, ◌/◌, ◌%◌, ◌<◌, ◌≤◌, ◌^◌, IsTrue, length, OnOk, OnErr, IfOk, IfErr, List, Err};
-ghost use Rattle.rpm_group.specs.Prelude.{begins_run, IsChangedInRange, Closed, count_below, CoversHeld, EntriesIn, Entry, file_of, Files, HeadsEndInZeros, images, laid_units, CrashChanges, CrashLeaves, log_state, log_units, EntriesOfTable, ReadsNothing, reopened, without_log, IsUntouched, WasWithin, with_entries, with_file};
+ghost use Rattle.rpm_group.specs.Prelude.{begins_run, IsChangedInRange, Closed, count_below, CoversHeld, EntriesIn, Entry, file_of, Files, HeadsEndInZeros, images, laid_units, CrashChanges, CrashLeaves, log_state, log_units, EntriesOfTable, ReadsNothing, reopened_files, without_log, IsUntouched, WasWithin, with_entries, with_file};
 
 use crate::pages::Pages;
 use crate::scan::next_unit;

@@ -2,7 +2,7 @@
 use Rattle.std.specs.Prelude.{◌≡◌, ℕ, ◌+◌, ◌≤◌, ◌<◌, List, [], ◌∷◌, ◌++◌, length, refl, replicate, Bool, ◌||◌, nat_le, true, false, Ok, Err, IsOk, is_ok}
 use Rattle.rpm_hindex.proofs.Vocabulary.{all_places, blank, bucket_count, chain, Contains, hash_of, Index, index_in, index_units, is_bucket_count, is_current}
 use Rattle.rpm_hindex.proofs.Vocabulary.{is_in_order, is_ordered, is_sound, IsWellFormed, list_all, places_of, range_with_len, records, Row, row_at, rows_of}
-use Rattle.rpm_hindex.proofs.Vocabulary.{sealed, opened_state, sum_by, unit_at, Units, units_at, word}
+use Rattle.rpm_hindex.proofs.Vocabulary.{sealed_generation, opened_state, sum_by, unit_at, Units, units_at, word}
 use Rattle.std.proofs.Common.{inl, inr, sym, ap, ◌∙◌, arith}
 use Rattle.std.proofs.lemmas.Bool.{cases_Bool, false≢true, leb-true, or_cases}
 use Rattle.std.proofs.lemmas.List.Elements.{at_from_Contains}
@@ -56,7 +56,7 @@ whole = file 18 (head 0 1 ∷ letter 0x61 ∷ [])
 abbrev row : Row
 row = record { kind = 1; key = 0x61 ∷ []; number = 1; place = 0 }
 
-sealed_at : sealed (unit_at whole 0) ≡ 2
+sealed_at : sealed_generation (unit_at whole 0) ≡ 2
 unfolding whole file seal word
 sealed_at = refl
 

@@ -1,5 +1,5 @@
 -- A chain as a relation: its places, each naming the next.
-use Rattle.std.proofs.Common.{◌≡◌, ℕ, zero, suc, ◌+◌, ◌/◌, ◌<◌, ◌≤◌, List, [], ◌∷◌, true, eqb, ltb, leb, Ok, Err, refl, sym, ap, ◌∙◌, arith, subst, inl, inr}
+use Rattle.std.proofs.Common.{◌≡◌, ℕ, zero, suc, ◌+◌, ◌/◌, ◌<◌, ◌≤◌, List, [], ◌∷◌, true, eqb, ltb, leb, Ok, Err, sym, ap, ◌∙◌, arith, subst, inl, inr}
 use Rattle.rpm_hindex.proofs.Vocabulary.{behind_place, chain, Contains, first_record, follow, Index, is_link, is_sound, next_at}
 use Rattle.std.proofs.lemmas.Bool.{cases_Bool, and_parts, eqb-true, ltb-true, leb-true, or_cases, cases_eq, and_from, or_right, lt-ltb, le-leb}
 use Rattle.rpm_hindex.proofs.Chains.{sound_parts, follow_step, follow_is_ok, fuel, chain_from, chain_bad}
@@ -15,9 +15,6 @@ behind_front x at link some = elim (or_cases (eqb at 0) _ link) [
   | inl zeros ↦ absurd (omega (arith, eqb-true at 0 zeros))
   | inr named ↦ leb-true (first_record x.buckets) at (and_parts (leb (first_record x.buckets) at) (ltb at x.used) named).0
 ]
-
-pub link_zero : (x : Index) → is_link x 0 ≡ true
-link_zero x = refl
 
 pub link_at : (x : Index) (at : ℕ) → first_record x.buckets ≤ at → at < x.used → is_link x at ≡ true
 link_at x at from to = or_right (eqb at 0) _ (and_from (leb (first_record x.buckets) at) (ltb at x.used) (le-leb _ _ from) (lt-ltb _ _ to))

@@ -2,7 +2,7 @@
 use Rattle.std.proofs.Common.{◌≡◌, ℕ, zero, suc, ◌+◌, ◌/◌, length, List, [], ◌∷◌, ◌++◌, map, Bool, cond, refl, sym, ap, ◌∙◌, arith, subst, inl, inr}
 use Rattle.std.specs.Prelude.{Vec}
 use Rattle.rpm_hindex.proofs.Vocabulary.{ArePadded, BadIndex, blank, bucket_count, chain, Change, DiskFault, EndsInZero, filter, flat_map, Global, HasLess}
-use Rattle.rpm_hindex.proofs.Vocabulary.{HitsAre, HasDraftUnits, Index, index_in, IndexFull, InPlace, IsIndexMade, IsOther, IsPaddedPlan, IsPlanFor, IsScratchOf}
+use Rattle.rpm_hindex.proofs.Vocabulary.{HitsAre, HasDraftUnits, Index, index_in, IndexFull, InPlace, IsIndexMade, IsPaddedPlan, IsPlanFor, IsScratchOf}
 use Rattle.rpm_hindex.proofs.Vocabulary.{IsSizedFor, IsTooLarge, IsTooLargeFor, IsWorkOf, kept_below, NoMemory, places_of, PrepareFault, with_units, range_with_len}
 use Rattle.rpm_hindex.proofs.Vocabulary.{ReachesFor, records, Row, row_at, SameRows, Scratch, second_after, times, times-append, Units, units_after}
 use Rattle.rpm_hindex.proofs.Vocabulary.{units_for, units_of, word, word_3, Work}
@@ -74,18 +74,6 @@ scratch_padded rows buckets file (Scratch image) (count, made) =
     subst (λ (n : ℕ). ArePadded (index_in n new)) (sym count) (made.made new (image_held image.bytes.items old new refl)).padded
 
 -- ---- faults
-
-pub other_small : (rows : List Row) (e : PrepareFault) → IsOther e → IsTooLarge rows e
-other_small rows (BadIndex unit) is = tt
-other_small rows (IndexFull needed) is = absurd is
-other_small rows DiskFault is = tt
-other_small rows NoMemory is = tt
-
-pub other_fits : (drops adds old : List Row) (e : PrepareFault) → IsOther e → IsTooLargeFor drops adds old e
-other_fits drops adds old (BadIndex unit) is = tt
-other_fits drops adds old (IndexFull needed) is = absurd is
-other_fits drops adds old DiskFault is = tt
-other_fits drops adds old NoMemory is = tt
 
 pub large_for : (drops adds kept old : List Row) (e : PrepareFault) → HasLess drops old kept → IsTooLarge (kept ++ adds) e → IsTooLargeFor drops adds old e
 large_for drops adds kept old (BadIndex unit) less is = tt

@@ -1,10 +1,10 @@
 -- What a fault of a change says of the index.
-use Rattle.std.proofs.Common.{◌≡◌, ℕ, zero, suc, ◌+◌, ◌-◌, ◌/◌, ◌%◌, ◌<◌, ◌≤◌, List, [], ◌∷◌, length, Bool, true, false, not, cond, BTreeMap, Vec, Global, Result, Ok, Err, refl, sym, ap, ◌∙◌, arith, subst, inl, inr}
-use Rattle.std.specs.Prelude.{Option, None, Some, unwrap_or, is_ok, IsOk, ◌⊎◌}
+use Rattle.std.proofs.Common.{◌≡◌, ℕ, zero, suc, ◌+◌, ◌-◌, ◌/◌, ◌%◌, ◌<◌, ◌≤◌, List, [], ◌∷◌, length, Bool, true, false, not, cond, BTreeMap, Vec, Global, refl, sym, ap, ◌∙◌, arith, subst, inl, inr}
+use Rattle.std.specs.Prelude.{Option, None, Some, unwrap_or, is_ok, ◌⊎◌}
 use Rattle.rpm_hindex.proofs.Vocabulary.{all_places, BadIndex, BTreeSet, bucket_unit, CanGo, chain, Change, index_after, Contains, contains, DiskFault, DropOfOne}
-use Rattle.rpm_hindex.proofs.Vocabulary.{first_record, get, HasNoFault, HasWord, Head, HitsAre, HoldsMore, if_kept, Index, index_in, IndexFull, is_kept}
+use Rattle.rpm_hindex.proofs.Vocabulary.{first_record, get, HasNoFault, HasWord, Head, HoldsMore, if_kept, Index, index_in, IndexFull, is_kept}
 use Rattle.rpm_hindex.proofs.Vocabulary.{is_link, IsBad, IsBadFor, IsBadSoFar, IsChainFault, IsFaulty, IsFront, IsHonest, IsLinked, HasBuckets, IsSpot}
-use Rattle.rpm_hindex.proofs.Vocabulary.{IsWellFormed, IsWithout, nat_cmp, NoMemory, places_of, PrepareFault, Puts, record_units, Row, SetsBucket, Spot}
+use Rattle.rpm_hindex.proofs.Vocabulary.{IsWellFormed, nat_cmp, NoMemory, places_of, PrepareFault, Puts, record_units, Row, SetsBucket, Spot}
 use Rattle.rpm_hindex.proofs.Vocabulary.{sum_by, unit_after, unit_at, Units, units_at, Unlinks, word}
 use Rattle.std.proofs.lemmas.List.Sums.{sum_by-cons}
 use Rattle.std.proofs.lemmas.Bool.{cases_eq, cases_Bool, cond-true, cond-false, false≢true}
@@ -14,12 +14,6 @@ use Rattle.rpm_hindex.proofs.FollowedLinks.{link_at, within, behind_front}
 use Rattle.rpm_hindex.proofs.Wholes.{flat_in}
 use Rattle.rpm_hindex.proofs.Tallies.{length_sum}
 use Rattle.rpm_hindex.proofs.Dropping.{spot_in, spot_units}
-
-pub bad_without : (buckets : ℕ) (file : Units) (e : PrepareFault) → IsWithout e → IsFaulty buckets file e
-bad_without buckets file (BadIndex unit) is = absurd is
-bad_without buckets file (IndexFull needed) is = tt
-bad_without buckets file DiskFault is = tt
-bad_without buckets file NoMemory is = tt
 
 -- a chain's fault is one of either kind
 pub faulty_bad : (buckets : ℕ) (file : Units) (e : PrepareFault) → IsFaulty buckets file e → IsBad buckets file e
@@ -86,10 +80,6 @@ kept_least kept f p ps c stays =
     omega arith
 
 -- ---- a row is dropped
-
-pub hits_ok : {H : Type 0} (P : List ℕ → H → Type 0) (said : Result (List ℕ) ℕ) (hits : H) → HitsAre P said hits → IsOk said
-hits_ok P (Ok places) hits h = refl
-hits_ok P (Err unit) hits h = absurd h
 
 in_places : (x : Index) (b q : ℕ) → b < x.buckets → Contains (places_of x b) q → Contains (all_places x) q
 unfolding all_places
@@ -306,6 +296,3 @@ starts_honest c file empty records_are live_is =
 
 pub bad_memory : (buckets : ℕ) (file : Units) (e : PrepareFault) → e ≡ NoMemory → IsFaulty buckets file e
 bad_memory buckets file e is = subst (IsFaulty buckets file) (sym is) tt
-
-pub bad_disk : (buckets : ℕ) (file : Units) (e : PrepareFault) → e ≡ DiskFault → IsFaulty buckets file e
-bad_disk buckets file e is = subst (IsFaulty buckets file) (sym is) tt

@@ -96,17 +96,6 @@ module _ (rows : List Row) (buckets : ℕ) (heads bytes second all : List ℕ)
         f.fours,
       )
 
-  -- the units after the front are those of the draft
-  rest_byte : (j : ℕ) → 16 + 4 * buckets ≤ j → get_or all j 0 ≡ get_or bytes j 0
-  rest_byte j from =
-      let front : length (second ++ flat_map bytes_of_word heads) ≡ 16 + 4 * buckets = omega
-      (arith, length-append second (flat_map bytes_of_word heads), length_second, length_words heads, many) in
-      let at : 16 + 4 * buckets + (j - (16 + 4 * buckets)) ≡ j = omega arith in
-      ap (λ (bs : List ℕ). get_or bs j 0) is
-      ∙ get_or-append_right (second ++ flat_map bytes_of_word heads) (drop (16 + 4 * buckets) bytes) (16 + 4 * buckets) j 0 front from
-      ∙ get_or-drop (16 + 4 * buckets) bytes (j - (16 + 4 * buckets)) 0
-      ∙ ap (λ (k : ℕ). get_or bytes k 0) at
-
   rest_unit : (k : ℕ) → 1 + buckets / 4 ≤ k → k < length bytes / 16 → unit_at (units_of all) k ≡ unit_at (units_of bytes) k
   rest_unit k from to =
       let front : length (second ++ flat_map bytes_of_word heads) ≡ 16 + 4 * buckets = omega

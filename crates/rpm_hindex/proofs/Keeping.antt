@@ -1,5 +1,5 @@
 -- The rows of the places that are kept.
-use Rattle.std.proofs.Common.{◌≡◌, ℕ, zero, suc, ◌+◌, ◌<◌, ◌≤◌, List, [], ◌∷◌, ◌++◌, map, reverse, Bool, true, false, cond, sym, ap, ◌∙◌, arith, subst, inl, inr}
+use Rattle.std.proofs.Common.{◌≡◌, ℕ, zero, suc, ◌+◌, ◌<◌, ◌≤◌, List, [], ◌∷◌, map, reverse, Bool, true, false, cond, sym, ap, ◌∙◌, arith, subst, inl, inr}
 use Rattle.rpm_hindex.proofs.Vocabulary.{all_places, bucket_of, Contains, filter, flat_map, HasLess, Index, kept_of, next_at, places_of}
 use Rattle.rpm_hindex.proofs.Vocabulary.{range_with_len, Row, row_at, rows_of, same_is, sum_by, times, times-append, times_none, times_one}
 use Rattle.std.proofs.lemmas.List.Sums.{sum_by-cons}
@@ -134,10 +134,6 @@ module _ (x : Index) (has : HasChains x (places_of x)) (row : Row) (kept : ℕ �
   less_one b p below c is later stays gone others r =
       let one : tally x.unit r p ≡ times r (row ∷ []) = ap (λ (q : Row). cond (same_rows r q) 1 0) (sym is) ∙ sym (times_one r row) in
       omega (arith, kept_less_one x has b p below c kept later stays gone others r, one)
-
--- drops, one after the other
-pub less_then : (row : Row) (drops old mid new : List Row) → HasLess drops old mid → HasLess (row ∷ []) mid new → HasLess (drops ++ row ∷ []) old new
-less_then row drops old mid new first second r = omega (arith, first r, second r, times-append r drops (row ∷ []))
 
 pub less_before : (row : Row) (drops old mid new : List Row) → HasLess drops old mid → HasLess (row ∷ []) mid new → HasLess (row ∷ drops) old new
 less_before row drops old mid new first second r = omega (arith, first r, second r, times-append r (row ∷ []) drops)

@@ -44,10 +44,6 @@ module _ (next kind : ℕ) (key : List ℕ) (number place : ℕ) where
   pub length-padded : length padded ≡ 16 * key_units (length key)
   length-padded = omega (arith, length-append key (key_padding (length key)), length-replicate {A = ℕ} (16 * key_units (length key) - length key) 0)
 
-  pub length-made : length made ≡ record_units (length key)
-  unfolding record_of
-  length-made = omega (arith, length-cut_up (key_units (length key)) padded)
-
   made_head : unit_at made 0 ≡ head
   unfolding record_of
   made_head = refl

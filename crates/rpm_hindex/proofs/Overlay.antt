@@ -2,7 +2,7 @@
 use Rattle.std.proofs.Common.{◌≡◌, ℕ, zero, suc, ◌^◌, ◌<◌, List, cond, eqb, refl, ◌∙◌, arith}
 use Rattle.std.specs.Prelude.{Option}
 use Rattle.std.proofs.lemmas.Bool.{cond-true, cond-false, eq-eqb, ne_eqb}
-use Rattle.rpm_hindex.proofs.Vocabulary.{bucket_unit, HasWord, Head, Puts, PutsOne, PutsWithin, SetsNext, unit_of_words, word, word_0, word_1, word_2, word_3}
+use Rattle.rpm_hindex.proofs.Vocabulary.{HasWord, Head, Puts, SetsNext, unit_of_words, word, word_0, word_1, word_2, word_3}
 
 -- a number of a unit, or another in place of number k
 abbrev pub number_or : List ℕ → ℕ → ℕ → ℕ → ℕ
@@ -29,12 +29,6 @@ has_word words k n a b c d four ea eb ec ed la lb lc ld =
 -- ---- the record before it
 
 module _ (old new : ℕ → Option (List ℕ)) where
-  pub puts_next : (used n : ℕ) (h : Head) → (0 < h.at) × (h.at < used) → SetsNext old new h n → PutsWithin used old new
-  puts_next used n h can s = (h.at, omega (arith, can.0), can.1, (s.words, s.put))
-
-  pub puts_word : (used bucket : ℕ) → bucket_unit bucket < used → PutsOne old new (bucket_unit bucket) → PutsWithin used old new
-  puts_word used bucket lt put = (bucket_unit bucket, omega arith, lt, put)
-
   pub sets_next : (h : Head) (n : ℕ) (w : List ℕ) → word 0 w ≡ n → word 1 w ≡ h.size → word 2 w ≡ h.number → word 3 w ≡ h.place → Puts old new h.at w
       → SetsNext old new h n
   sets_next h n w zero_is one two three put = record {

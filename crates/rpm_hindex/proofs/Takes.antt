@@ -25,12 +25,3 @@ rows_from rows i next lt is =
 
 pub live_next : (rows : List Row) (i : ℕ) → i < length rows → live_of (take (i + 1) rows) ≡ live_of (take i rows) + record_units (length (row_nth rows i).key)
 live_next rows i lt = ap live_of (next_rows rows i lt) ∙ live_push (take i rows) (row_nth rows i)
-
-abbrev pub row_from : ℕ → List ℕ → ℕ → ℕ → Row
-row_from kind key number place = record { kind = kind; key = key; number = number; place = place }
-
-pub row_of_parts : (r : Row) (kind : ℕ) (key : List ℕ) (number place : ℕ) → kind ≡ r.kind → key ≡ r.key → number ≡ r.number → place ≡ r.place
-    → row_from kind key number place ≡ r
-row_of_parts r kind key number place a b c d =
-    ap (λ (k : ℕ). row_from k key number place) a ∙ ap (λ (k : List ℕ). row_from r.kind k number place) b
-    ∙ ap (λ (n : ℕ). row_from r.kind r.key n place) c ∙ ap (λ (n : ℕ). row_from r.kind r.key r.number n) d

@@ -20,7 +20,7 @@ unfoldable pub use Rattle.rpm_hindex.specs.Rows.{hash_of, times}
 pub use Rattle.rpm_hindex.specs.Sizes.{doubled_buckets, first_record, key_units, units_for}
 pub use Rattle.rpm_hindex.specs.laws.Parts.{index_units, record_units}
 unfoldable pub use Rattle.rpm_hindex.specs.Sizes.{bucket_count, is_bucket_count, live_of}
-pub use Rattle.rpm_hindex.specs.State.{buckets_of, EndsInZero, is_headed, KeepsIndexValue, seal_unit, sealed, IndexState, opened_state}
+pub use Rattle.rpm_hindex.specs.State.{buckets_of, EndsInZero, is_headed, KeepsIndexValue, seal_unit, sealed_generation, IndexState, opened_state}
 pub use Rattle.rpm_hindex.specs.laws.Parts.{index_magic}
 unfoldable pub use Rattle.rpm_hindex.specs.State.{is_current, is_in_order, is_ordered}
 pub use Rattle.rpm_hindex.specs.Whole.{IsWellFormed, IsWhole}
@@ -43,7 +43,7 @@ pub use Rattle.rpm_hindex.specs.declared.spots.Spot.{Spot}
 pub use Rattle.rpm_hindex.specs.inner.Changes.{AddsRows, CanGo, index_after, CountsLess, DropOfOne, HasFault, HasGone, HasLess, HasNoFault, HasWord, if_kept}
 pub use Rattle.rpm_hindex.specs.inner.Changes.{index_with, is_kept, IsBadSoFar, IsBehind, IsChainFault, IsWithoutDropped, IsFreshChange, IsHonest}
 pub use Rattle.rpm_hindex.specs.inner.Changes.{IsOther, IsScratchOf}
-pub use Rattle.rpm_hindex.specs.inner.Changes.{IsShort, IsStarted, IsTooLarge, IsWithout, IsWorkOf, kept_below, kept_in, kept_of, patch_of, Puts, PutsOne}
+pub use Rattle.rpm_hindex.specs.inner.Changes.{IsShort, IsStarted, IsTooLarge, IsWorkOf, kept_below, kept_in, kept_of, patch_of, Puts}
 pub use Rattle.rpm_hindex.specs.inner.Changes.{PutsWithin, SetsBucket, SetsNext, Stays, unit_after, Unlinks}
 pub use Rattle.rpm_hindex.specs.inner.Drafts.{draft_index, HasDraftUnits, IsDraft, IsDraftOf, IsIndexMade}
 pub use Rattle.rpm_hindex.specs.inner.Making.{key_padding}

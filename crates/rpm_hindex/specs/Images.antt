@@ -5,7 +5,7 @@ use Rattle.rpm_outside.specs.declared.disk.File.TheVariants.{Idx}
 use Rattle.rpm_outside.specs.Files.{Units, unit_at, blank, with_units}
 use Rattle.rpm_outside.specs.Frame.{IsDurable}
 use Rattle.rpm_hindex.specs.Index.{records}
-use Rattle.rpm_hindex.specs.State.{IndexState, KeepsIndexValue, sealed, buckets_of}
+use Rattle.rpm_hindex.specs.State.{IndexState, KeepsIndexValue, sealed_generation, buckets_of}
 use Rattle.rpm_hindex.specs.Whole.{IsWellFormed}
 
 -- unit 0 is that of the file before
@@ -26,7 +26,7 @@ SealedOrSame unit from image = 1 ≤ length from → (image ≡ from) ⊎ (image
 
 -- a file that is sealed at this generation, and well formed with the same records
 pub record IsSealed (generation buckets : ℕ) (from image : Units) : Type 0 where
-  pub generation_is : sealed (unit_at image 0) ≡ generation
+  pub generation_is : sealed_generation (unit_at image 0) ≡ generation
   pub buckets_are : buckets_of (unit_at image 0) ≡ buckets
   pub whole : IsWellFormed buckets image
   pub records_are : records buckets image ≡ records buckets from

@@ -27,8 +27,8 @@ abbrev pub is_headed : List ℕ → Bool
 is_headed first = (word 0 first == 1215131730) && (word 1 first == 2)
 
 -- the generation at which an index is sealed, 0 where it isn't
-abbrev pub sealed : List ℕ → ℕ
-sealed first = if is_headed first then word 2 first else 0
+abbrev pub sealed_generation : List ℕ → ℕ
+sealed_generation first = if is_headed first then word 2 first else 0
 
 -- the count of buckets, from the first unit
 abbrev pub buckets_of : List ℕ → ℕ
@@ -52,7 +52,7 @@ is_in_order state = is_headed state.first && is_ordered (buckets_of state.first)
 
 -- sealed at a generation, and in order
 unfoldable pub is_current : ℕ → IndexState → Bool
-is_current generation state = (sealed state.first == generation) && is_in_order state
+is_current generation state = (sealed_generation state.first == generation) && is_in_order state
 
 -- unit 0 of an index that is sealed
 abbrev pub seal_unit : ℕ → ℕ → List ℕ

@@ -4,7 +4,7 @@ use Rattle.std.specs.Prelude.{IsTrue}
 use Rattle.std.proofs.lemmas.List.{append-nil}
 use Rattle.rpm_history.proofs.Vocabulary.{after, AllRowsFit, AllStand, AreLawfulDatabases, asks, Between, ChangesWith, Course, course_of, Cuts, Files, FromOneOf}
 use Rattle.rpm_history.proofs.Vocabulary.{given_on, HasState, images, InTurn, InTurnBefore, is_done, LeadsByLines, leaves_then, leaves_weaker, CrashLeaves, LeavesState}
-use Rattle.rpm_history.proofs.Vocabulary.{LineIs, LineStays, Moves, Paths, reopened, RowsFit, RunCall, Says, RepresentsState, started, State, state, Store, store}
+use Rattle.rpm_history.proofs.Vocabulary.{LineIs, LineStays, Moves, Paths, reopened_files, RowsFit, RunCall, Says, RepresentsState, started, State, state, Store, store}
 use Rattle.rpm_history.proofs.Vocabulary.{Outputs, Run, run_of, TellsCalls, Units, Why}
 use Rattle.rpm_commit.specs.laws.Brokens.{by_bool}
 use Rattle.rpm_history.proofs.Fitting.{course_fits}
@@ -119,13 +119,13 @@ module _ {D S O E : Type 0} (d : disk.Ghosts D) (told : IsTrue d.tells) (s : she
   acknowledged : (call : RunCall) (calls : List RunCall) (old mid new : Between D S O E) → TellsCalls s.tells calls → Lines calls mid new
       → AreLawfulDatabases (images d mid.disk) → {anew changing : Bool} {printed : Outputs}
       → ChangesWith (run_of d s o e call old mid printed) anew changing (course_in call) → is_done call.outcome.why ≡ true
-      → (value : Store) → store (reopened (d.files old.disk)).pkg ≡ Ok value
-      → CrashLeaves d mid.disk new.disk (RepresentsState (Cuts paths calls (after (course_in call) (state (reopened (d.files old.disk)).pkg value))))
+      → (value : Store) → store (reopened_files (d.files old.disk)).pkg ≡ Ok value
+      → CrashLeaves d mid.disk new.disk (RepresentsState (Cuts paths calls (after (course_in call) (state (reopened_files (d.files old.disk)).pkg value))))
   acknowledged call calls old mid new tells rest lawful did done value undamaged =
-      let made = after (course_in call) (state (reopened (d.files old.disk)).pkg value) in
+      let made = after (course_in call) (state (reopened_files (d.files old.disk)).pkg value) in
       let P : State → Type 0 = λ t. t ≡ made in
       let held : (image : Files) → images d mid.disk image → HasState made image =
-      if_ok_at _ (store (reopened (d.files old.disk)).pkg) value undamaged (did.held done) in
+      if_ok_at _ (store (reopened_files (d.files old.disk)).pkg) value undamaged (did.held done) in
       leaves_weaker d mid.disk new.disk (RepresentsState (CutsFrom P calls)) (RepresentsState (Cuts paths calls made))
       (λ image. stands_weaker (CutsFrom P calls) (Cuts paths calls made) image
       (λ t how. subst (λ (m : State). Cuts paths calls m t) how.1 how.2))
@@ -146,7 +146,7 @@ module _ {D S O E : Type 0} (d : disk.Ghosts D) (told : IsTrue d.tells) (s : she
         record {
           line = line;
           since = (lines_stand calls mid new tells.1 rest behind).1;
-          acknowledged = λ a tree task asked is done. ok_is _ (store (reopened (d.files old.disk)).pkg) first.value first.undamaged
+          acknowledged = λ a tree task asked is done. ok_is _ (store (reopened_files (d.files old.disk)).pkg) first.value first.undamaged
               (acknowledged call calls old mid new tells.1 rest behind (line_changes d told s o e paths call old mid tells.0 line a tree task asked is) done
               first.value first.undamaged);
         },
@@ -179,10 +179,10 @@ module _ {D S O E : Type 0} (d : disk.Ghosts D) (told : IsTrue d.tells) (s : she
     made : AllStand (Next course call.outcome.why (Numbered from old.given)) (images d new.disk) → {anew changing : Bool}
         → ChangesWith r anew changing course → is_done call.outcome.why ≡ true → Rise new.given
     made next did done image left =
-        let first : Says (Numbered from old.given) (reopened (d.files old.disk)).pkg = (all (d.files old.disk) (as_read old.disk)).says in
-        let s0 = state (reopened (d.files old.disk)).pkg first.value in
+        let first : Says (Numbered from old.given) (reopened_files (d.files old.disk)).pkg = (all (d.files old.disk) (as_read old.disk)).says in
+        let s0 = state (reopened_files (d.files old.disk)).pkg first.value in
         let has : HasState (after course s0) image =
-        if_ok_at _ (store (reopened (d.files old.disk)).pkg) first.value first.undamaged (did.held done) image left in
+        if_ok_at _ (store (reopened_files (d.files old.disk)).pkg) first.value first.undamaged (did.held done) image left in
         record {
           lawful = (next image left).lawful;
           says = record {
@@ -229,7 +229,7 @@ module _ {D : Type 0} {d : disk.Ghosts D} (r : Run d) where
       (s, subst (λ (pkg : Units). Says (λ t. t ≡ s) pkg) (sym stood.pkg) has, moves_nothing course stood.nothing r.why s)
   line_moves course s has (inr (anew, changing, did)) = left_moves course s r.changes (d.files r.left) r.why
       (subst (λ (t : State). LeavesState course t r.why r.changes (d.files r.left)) has.is
-      (if_ok_at _ (store (reopened (d.files r.found)).pkg) has.value has.undamaged did.state_is))
+      (if_ok_at _ (store (reopened_files (d.files r.found)).pkg) has.value has.undamaged did.state_is))
 
 module _ {D S O E : Type 0} (d : disk.Ghosts D) (told : IsTrue d.tells) (s : shelf.Ghosts S) (o : sink.Ghosts O) (e : sink.Ghosts E) (paths : Paths) where
   pub lines_lead : (calls : List RunCall) (old new : Between D S O E) → TellsCalls s.tells calls → InTurn (LineIs d s o e paths) calls old new

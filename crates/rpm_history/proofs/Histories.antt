@@ -1,7 +1,7 @@
 -- One command line more: what the database represents after it, given what it represented before.
 use Rattle.std.proofs.Common.{◌≡◌, ◌⊎◌, ℕ, ◌≤◌, Bool, false, refl, sym, ap, subst, inl, inr, ⊎_elim, arith, true}
 use Rattle.rpm_history.proofs.Vocabulary.{after, AllRowsFit, AllStand, apply_all, AreLawfulDatabases, ChangesWith, Course, Files, HasState, idle, images, is_done}
-use Rattle.rpm_history.proofs.Vocabulary.{is_done_or_fault, leaves_weaker, CrashLeaves, Moves, reopened, RowsFit, Run, Says, RepresentsState, IsLawfulAndSame, IsLawfulAndSameOr}
+use Rattle.rpm_history.proofs.Vocabulary.{is_done_or_fault, leaves_weaker, CrashLeaves, Moves, reopened_files, RowsFit, Run, Says, RepresentsState, IsLawfulAndSame, IsLawfulAndSameOr}
 use Rattle.rpm_history.proofs.Vocabulary.{State, state, store, Units, Why}
 use Rattle.rpm_commit.specs.laws.Brokens.{by_bool}
 use Rattle.rpm_commit.specs.laws.Recovered.{still_fits}
@@ -27,7 +27,7 @@ pub says_weaker : (P Q : State → Type 0) (pkg : Units) → ((s : State) → P 
 says_weaker P Q pkg weaker says = record { value = says.value; undamaged = says.undamaged; is = weaker (state pkg says.value) says.is }
 
 pub stands_weaker : (P Q : State → Type 0) (image : Files) → ((s : State) → P s → Q s) → RepresentsState P image → RepresentsState Q image
-stands_weaker P Q image weaker stands = record { lawful = stands.lawful; says = says_weaker P Q (reopened image).pkg weaker stands.says }
+stands_weaker P Q image weaker stands = record { lawful = stands.lawful; says = says_weaker P Q (reopened_files image).pkg weaker stands.says }
 
 -- an image that keeps its packages represents a state of before
 still_stands : (P : State → Type 0) (images : Files → Type 0) (image : Files) → AllStand P images → IsLawfulAndSame images image → RepresentsState P image
@@ -41,7 +41,7 @@ still_stands P images image all still = record {
 -- nothing: the packages stay, whatever stops it
 pub record Stood {D : Type 0} (d : disk.Ghosts D) (course : State → Course) (old new : D) : Type 0 where
   pub nothing : (s : State) → course s ≡ idle
-  pub pkg : (reopened (d.files new)).pkg ≡ (reopened (d.files old)).pkg
+  pub pkg : (reopened_files (d.files new)).pkg ≡ (reopened_files (d.files old)).pkg
   pub crashes : AreLawfulDatabases (images d old) → CrashLeaves d old new (IsLawfulAndSame (images d old))
 
 -- or its course changed them
@@ -89,17 +89,17 @@ module _ {D : Type 0} {d : disk.Ghosts D} (r : Run d) (course : State → Course
   -- ---- a command that changes packages
 
   module _ (anew changing : Bool) (did : ChangesWith r anew changing course) where
-    first : Says P (reopened (d.files old)).pkg
+    first : Says P (reopened_files (d.files old)).pkg
     first = (all (d.files old) here).says
 
     abbrev s0 : State
-    s0 = state (reopened (d.files old)).pkg first.value
+    s0 = state (reopened_files (d.files old)).pkg first.value
 
     crashes : CrashLeaves d old new (IsLawfulAndSameOr past (after course s0))
-    crashes = if_ok_at _ (store (reopened (d.files old)).pkg) first.value first.undamaged (did.crashes lawful)
+    crashes = if_ok_at _ (store (reopened_files (d.files old)).pkg) first.value first.undamaged (did.crashes lawful)
 
     made_next : (image : Files) → HasState (after course s0) image → Moves given (after course s0) s0 (after course s0)
-        → Says (Next course given P) (reopened image).pkg
+        → Says (Next course given P) (reopened_files image).pkg
     made_next image has moves = record {
       value = has.value;
       undamaged = has.undamaged;
@@ -110,7 +110,7 @@ module _ {D : Type 0} {d : disk.Ghosts D} (r : Run d) (course : State → Course
     changed_next image since left = by_bool (is_done given)
         (λ done. record {
           lawful = ⊎_elim (λ still. still.lawful) (λ both. both.0) (crashes.each image since);
-          says = made_next image (if_ok_at _ (store (reopened (d.files old)).pkg) first.value first.undamaged (did.held done) image left)
+          says = made_next image (if_ok_at _ (store (reopened_files (d.files old)).pkg) first.value first.undamaged (did.held done) image left)
               ((moves_are given s0 (after course s0)).0 done);
         })
         (λ undone. by_bool (is_done_or_fault given)

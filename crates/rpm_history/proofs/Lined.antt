@@ -1,10 +1,10 @@
 -- A command line more, by what `run` says of it.
 use Rattle.std.proofs.Common.{◌≡◌, ℕ, Bool, true, false, List, [], ◌∷◌, ◌++◌, length, ◌<◌, get_or, refl, sym, ap, subst, inl, inr, arith, ◌∙◌, Some}
-use Rattle.std.specs.Prelude.{Option, Some, None, IsTrue, is_some}
+use Rattle.std.specs.Prelude.{Option, Some, None, IsTrue}
 use Rattle.std.specs.Option.{option_map_or}
 use Rattle.rpm_history.proofs.Vocabulary.{Adding, asked_task, AskParts, asks, Between, by_key, calls_of, changes_index, Course, course_of, Files}
 use Rattle.rpm_history.proofs.Vocabulary.{FromOneOf, idle, Importing, is_anew, IsLawfulDatabase, OnlyReadsPackages, Line, LineIs, of_files, Outcome, Paths}
-use Rattle.rpm_history.proofs.Vocabulary.{reads_shelf, reopened, Replacing, RunCall, RepresentsState, IsLawfulAndSame, State, state, task_course, TaskParts, TellsCalls}
+use Rattle.rpm_history.proofs.Vocabulary.{reads_shelf, reopened_files, Replacing, RunCall, RepresentsState, IsLawfulAndSame, State, state, task_course, TaskParts, TellsCalls}
 use Rattle.rpm_history.proofs.Vocabulary.{ChangesWith, AnswersCommand, Run, run_of, setting_of, TellsLines, Tree, uses_in, uses_shelf}
 use Rattle.rpm_outside.specs.Frame.{images, CrashLeaves}
 use Rattle.rpm_commit.specs.laws.Brokens.{by_bool}
@@ -26,13 +26,13 @@ from_one images Way t (s, (from, was, says), way) =
 pub from_itself : (images : Files → Type 0) (Way : State → State → Type 0) → ((s : State) → Way s s) → (image : Files) → images image
     → IsLawfulDatabase image → RepresentsState (FromOneOf images Way) image
 from_itself images Way still image left lawful =
-    let is = lawful_store (reopened image).pkg (reopened image).idx lawful.lawful in
+    let is = lawful_store (reopened_files image).pkg (reopened_files image).idx lawful.lawful in
     record {
       lawful = lawful;
       says = record {
         value = is.0;
         undamaged = is.1;
-        is = (image, left, record { value = is.0; undamaged = is.1; is = still (state (reopened image).pkg is.0) });
+        is = (image, left, record { value = is.0; undamaged = is.1; is = still (state (reopened_files image).pkg is.0) });
       };
     }
 
@@ -99,7 +99,7 @@ module _ {D S O E : Type 0} (d : disk.Ghosts D) (told : IsTrue d.tells) (s : she
   unread : new.disk ≡ old.disk → Stood d (λ t. idle) old.disk new.disk
   unread same = record {
     nothing = λ t. refl;
-    pkg = ap (λ (it : D). (reopened (d.files it)).pkg) same;
+    pkg = ap (λ (it : D). (reopened_files (d.files it)).pkg) same;
     crashes = λ lawful. subst (λ (it : D). CrashLeaves d old.disk it (IsLawfulAndSame past)) (sym same) (record {
       later = omega arith;
       each = λ image left. record { from = image; was = left; pkg = refl; lawful = lawful image left };
@@ -110,7 +110,7 @@ module _ {D S O E : Type 0} (d : disk.Ghosts D) (told : IsTrue d.tells) (s : she
   looked : OnlyReadsPackages d old.disk new.disk → Stood d (λ t. idle) old.disk new.disk
   looked leaves = record {
     nothing = λ t. refl;
-    pkg = ap (λ (f : Files). (reopened f).pkg) (leaves.untouched told).same;
+    pkg = ap (λ (f : Files). (reopened_files f).pkg) (leaves.untouched told).same;
     crashes = λ lawful. record {
       later = omega (arith, leaves.moment_stays);
       each = λ image left. (let was = (leaves.untouched told).images (d.moment old.disk) image left in

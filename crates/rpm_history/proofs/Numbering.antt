@@ -1,7 +1,7 @@
 -- The numbers that command lines give to new packages rise, and each image that a crash leaves has a next number above them.
 use Rattle.std.proofs.Common.{◌≡◌, ℕ, Bool, true, false, List, [], ◌++◌, refl, sym, ap, subst, ⊎_elim}
 use Rattle.std.specs.Prelude.{Result, Ok, Err, if◌then◌else◌}
-use Rattle.rpm_history.proofs.Vocabulary.{after, Course, Damage, Files, given_in, given_on, idle, is_done, IsAhead, Moves, next, numbers_given, reopened}
+use Rattle.rpm_history.proofs.Vocabulary.{after, Course, Damage, Files, given_in, given_on, idle, is_done, IsAhead, Moves, next, numbers_given, reopened_files}
 use Rattle.rpm_history.proofs.Vocabulary.{RiseWithin, State, state, Store, store, Why}
 use Rattle.rpm_history.proofs.Ahead.{Ahead, Fits, ahead_of, changes_rise, rise_least, rise_later, rise_then}
 use Rattle.rpm_history.proofs.Histories.{moves_are}
@@ -10,19 +10,20 @@ use Rattle.rpm_history.proofs.Histories.{moves_are}
 
 -- nothing, by a command that changes nothing
 pub given_nothing : (course : State → Course) → ((s : State) → course s ≡ idle) → (files : Files) (w : Why) → given_on course files w ≡ []
-given_nothing course nothing files w = by_done (is_done w) (store (reopened files).pkg)
+given_nothing course nothing files w = by_done (is_done w) (store (reopened_files files).pkg)
   where
-    by_done : (b : Bool) (r : Result Store Damage) → (if b then given_in course (reopened files).pkg r else []) ≡ []
-    by_done true (Ok value) = ap (λ (c : Course). numbers_given c.changes (state (reopened files).pkg value)) (nothing (state (reopened files).pkg value))
+    by_done : (b : Bool) (r : Result Store Damage) → (if b then given_in course (reopened_files files).pkg r else []) ≡ []
+    by_done true (Ok value) =
+        ap (λ (c : Course). numbers_given c.changes (state (reopened_files files).pkg value)) (nothing (state (reopened_files files).pkg value))
     by_done true (Err damage) = refl
     by_done false r = refl
 
 pub given_undone : (course : State → Course) (files : Files) (w : Why) → is_done w ≡ false → given_on course files w ≡ []
 given_undone course files w undone = rw undone refl
 
-pub given_done : (course : State → Course) (files : Files) (w : Why) (value : Store) → store (reopened files).pkg ≡ Ok value → is_done w ≡ true
+pub given_done : (course : State → Course) (files : Files) (w : Why) (value : Store) → store (reopened_files files).pkg ≡ Ok value → is_done w ≡ true
     → given_on course files w
-    ≡ numbers_given (course (state (reopened files).pkg value)).changes (state (reopened files).pkg value)
+    ≡ numbers_given (course (state (reopened_files files).pkg value)).changes (state (reopened_files files).pkg value)
 given_done course files w value undamaged done = rw (done, undamaged) refl
 
 -- ---- to where a line moves

@@ -31,7 +31,7 @@ pub use Rattle.rpm_history.specs.Lines.{between, Between, InTurn, InTurnBefore, 
 pub use Rattle.rpm_history.specs.declared.several.Line.{Line}
 pub use Rattle.rpm_outside.specs.Files.{Files, Units}
 pub use Rattle.rpm_outside.specs.Frame.{images, CrashLeaves}
-pub use Rattle.rpm_outside.specs.Logs.{reopened}
+pub use Rattle.rpm_outside.specs.Logs.{reopened_files}
 pub use Rattle.rpm_outside.specs.Shelves.{bytes_at, Paths}
 pub use Rattle.rpm_outside.specs.laws.Moments.{leaves_then, leaves_weaker, started}
 pub use Rattle.rpm_pkgdb.specs.Store.{store, Store}

@@ -1,7 +1,7 @@
 -- The numbers that changes give to new packages: `numbers` of `run_each` rests on it.
 use Rattle.std.specs.Prelude.{◌≡◌, ℕ, ◌+◌, ◌≤◌, List, [], ◌∷◌, if◌then◌else◌, Result, Ok, Err}
 use Rattle.rpm_outside.specs.Files.{Units, Files}
-use Rattle.rpm_outside.specs.Logs.{reopened}
+use Rattle.rpm_outside.specs.Logs.{reopened_files}
 use Rattle.rpm_pkgdb.specs.declared.slot.Damage.{Damage}
 use Rattle.rpm_pkgdb.specs.Store.{Store, store}
 use Rattle.rpm_db.specs.Changes.{Change, Add, apply, next}
@@ -27,7 +27,7 @@ given_in course pkg (Err damage) = []
 
 -- acknowledged: none, unless the command was done
 abbrev pub given_on : (State → Course) → Files → Why → List ℕ
-given_on course files why = if is_done why then given_in course (reopened files).pkg (store (reopened files).pkg)
+given_on course files why = if is_done why then given_in course (reopened_files files).pkg (store (reopened_files files).pkg)
     else []
 
 -- a list of numbers rises from one number on, each once, and all are below another

@@ -4,7 +4,7 @@ use Rattle.std.specs.Prelude.{◌≡◌, ◌⊎◌, ℕ, List, [], ◌∷◌, �
 use Rattle.std.specs.Option.{option_map_or}
 use Rattle.std.specs.List.{AllByRecursion}
 use Rattle.rpm_outside.specs.Files.{Files}
-use Rattle.rpm_outside.specs.Logs.{reopened}
+use Rattle.rpm_outside.specs.Logs.{reopened_files}
 use Rattle.rpm_outside.specs.Shelves.{Paths}
 use Rattle.rpm_db.specs.Changes.{Says}
 use Rattle.rpm_db.specs.State.{State}
@@ -92,11 +92,11 @@ TellsCalls tells calls = AllByRecursion (λ call. uses_shelf call.words ≡ true
 -- a lawful image that represents such a state
 pub record RepresentsState (P : State → Type 0) (image : Files) : Type 0 where
   pub lawful : IsLawfulDatabase image
-  pub says : Says P (reopened image).pkg
+  pub says : Says P (reopened_files image).pkg
 
 -- a state to which there is such a way from that of one of these images
 abbrev pub FromOneOf : (Files → Type 0) → (State → State → Type 0) → State → Type 0
-FromOneOf images Way t = (from : Files) × images from × Says (λ s. Way s t) (reopened from).pkg
+FromOneOf images Way t = (from : Files) × images from × Says (λ s. Way s t) (reopened_files from).pkg
 
 -- each of these images does
 abbrev pub AllStand : (State → Type 0) → (Files → Type 0) → Type 0

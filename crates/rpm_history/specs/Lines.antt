@@ -1,7 +1,7 @@
 -- Several command lines on one disk: what each answers, what it leaves to the next, and what stays of it while the next
 -- ones are run. On it rest `ran`, `kept` and `numbers` of `run_each`.
 use Rattle.std.specs.Prelude.{◌≡◌, ℕ, ◌++◌, List, [], ◌∷◌, true, IsTrue, Some, None, IfOk}
-use Rattle.rpm_outside.specs.Logs.{reopened}
+use Rattle.rpm_outside.specs.Logs.{reopened_files}
 use Rattle.rpm_outside.specs.Shelves.{Paths}
 use Rattle.rpm_outside.specs.declared.disk.Disk as disk
 use Rattle.rpm_outside.specs.declared.shelf.Shelf as shelf
@@ -81,6 +81,6 @@ module _ {D S O E : Type 0} (d : disk.Ghosts D) (s : shelf.Ghosts S) (o : sink.G
     -- and after changes that were done for the state with all of them, or one to which lines behind it lead from there
     pub acknowledged : (a : AskParts) (tree : Tree) (task : TaskParts) → asks call.words ≡ Some (a, tree)
         → asked_task call.words a ≡ Some task → is_done call.outcome.why ≡ true
-        → IfOk (store (reopened (d.files old.disk)).pkg) (λ value. CrashLeaves d mid.disk new.disk
+        → IfOk (store (reopened_files (d.files old.disk)).pkg) (λ value. CrashLeaves d mid.disk new.disk
         (RepresentsState (Cuts paths behind (made_by paths call.moment call.words
-        (state (reopened (d.files old.disk)).pkg value)))))
+        (state (reopened_files (d.files old.disk)).pkg value)))))

@@ -1,9 +1,9 @@
 -- What goes through a buffer, a call at a time.
-use Rattle.std.proofs.Common.{◌≡◌, ℕ, ◌+◌, ◌-◌, ◌≤◌, Bool, List, [], ◌++◌, take, drop, length, Result, Ok, Err, refl, sym, ap, ◌∙◌, append_assoc, arith}
+use Rattle.std.proofs.Common.{◌≡◌, ℕ, ◌+◌, ◌-◌, ◌≤◌, Bool, List, [], ◌++◌, take, drop, length, Result, Ok, Err, sym, ap, ◌∙◌, append_assoc, arith}
 use Rattle.std.specs.Prelude.{IsTrue, IfOk, OnErr}
 use Rattle.std.proofs.lemmas.List.{append-nil, take-append-drop, take-take, drop-drop}
 use Rattle.rpm_outside.specs.declared.sink.Sink as sink
-use Rattle.rpm_outside.proofs.Vocabulary.{IsPrefix, GainIs, gained_more, gained_none}
+use Rattle.rpm_outside.proofs.Vocabulary.{IsPrefix, GainIs, gained_more}
 
 -- of what was held the sink took the first, and the others are held
 pub record Handed {S : Type 0} (s : sink.Ghosts S) (old : S) (held : List ℕ) (now : S) (holds : List ℕ) : Type 0 where
@@ -14,9 +14,6 @@ pub record Handed {S : Type 0} (s : sink.Ghosts S) (old : S) (held : List ℕ) (
   pub goes_on : s.follows old now
 
 module _ {S : Type 0} (s : sink.Ghosts S) where
-  pub handed_start : (x : S) (held : List ℕ) → s.follows x x → Handed s x held x held
-  handed_start x held same = record { out = []; gained = gained_none s.tells (s.taken x); whole = refl; later = omega arith; goes_on = same }
-
   -- the sink takes some of what is left
   pub handed_more : (old mid new : S) (held items slice : List ℕ) (gone n : ℕ) → slice ≡ items → n ≤ length slice - gone
       → Handed s old held mid (drop gone items)

@@ -1,6 +1,6 @@
 -- The definitions at a small log.
 use Rattle.std.specs.Prelude.{◌≡◌, ℕ, List, [], ◌∷◌, refl, replicate}
-use Rattle.rpm_outside.proofs.Vocabulary.{blank, Closed, entry_at, Files, heads, Idx, is_commit_record, is_log_head, log_state, Malformed, Open, Pkg, with_units, reopened, Units}
+use Rattle.rpm_outside.proofs.Vocabulary.{blank, Closed, entry_at, Files, heads, Idx, is_commit_record, is_log_head, log_state, Malformed, Open, Pkg, with_units, reopened_files, Units}
 use Rattle.rpm_outside.proofs.Vocabulary.{word}
 
 abbrev commit_record : List ℕ
@@ -37,6 +37,6 @@ no_log : log_state [] ≡ Closed
 unfolding log_state is_commit_record heads is_log_head entry_at word blank
 no_log = refl
 
-reopened_files : reopened (files log) ≡ record { pkg = full 1 ∷ full 7 ∷ full 8 ∷ []; idx = full 9 ∷ full 3 ∷ []; log = [] }
+reopened_is : reopened_files (files log) ≡ record { pkg = full 1 ∷ full 7 ∷ full 8 ∷ []; idx = full 9 ∷ full 3 ∷ []; log = [] }
 unfolding log_state is_commit_record heads is_log_head entry_at word blank with_units
-reopened_files = refl
+reopened_is = refl

@@ -5,7 +5,7 @@ pub use Rattle.rpm_outside.specs.Causes.{Rose}
 pub use Rattle.rpm_outside.specs.Crash.{Elapses, OnlyAfter, RisesOrStays, Torn, TornFile}
 pub use Rattle.rpm_outside.specs.Files.{bytes_of, cases_file, cut_up, file_of, Files, unit_at, Units, units_of, with_file}
 unfoldable pub use Rattle.rpm_outside.specs.Files.{blank, with_units}
-pub use Rattle.rpm_outside.specs.Logs.{Closed, Malformed, Open, reopened}
+pub use Rattle.rpm_outside.specs.Logs.{Closed, Malformed, Open, reopened_files}
 unfoldable pub use Rattle.rpm_outside.specs.Logs.{entry_at, heads, is_commit_record, is_log_head, log_state}
 pub use Rattle.rpm_outside.specs.MemDisk.{DiskDid, FailsWhereNamed, is_named_call, mem_calls, mem_failing, mem_faults, mem_files, mem_first, mem_starved}
 pub use Rattle.rpm_outside.specs.MemShelf.{bytes_in, entry_of_item, left_in, paths_of, rest_of_item}
@@ -36,7 +36,7 @@ pub use Rattle.rpm_outside.specs.laws.History.{sync_step, torn_file_none, torn_f
 pub use Rattle.rpm_outside.proofs.ImageLaws.{images_are}
 pub use Rattle.rpm_outside.specs.laws.PutLaws.{same_units}
 pub use Rattle.rpm_outside.specs.laws.Puts.{length-put, put_after, put_before, put_cases, put_inside}
-pub use Rattle.rpm_outside.specs.laws.Taken.{gained_more, gained_none, taken_more}
+pub use Rattle.rpm_outside.specs.laws.Taken.{gained_more, taken_more}
 pub use Rattle.std.specs.Cmp.Lexicographic.{slice_cmp}
 pub use Rattle.std.specs.FinMap.{find, get-from_entries}
 pub use Rattle.std.specs.List.{list_any, range_with_len}

@@ -35,10 +35,6 @@ pub record IsUntouched (old new : Files) (past since : ℕ → Files → Type 0)
 abbrev pub RisesOrStays : ℕ → ℕ → Files → Files → (ℕ → Files → Type 0) → (ℕ → Files → Type 0) → Type 0
 RisesOrStays before now old new past since = Rose before now ⊎ ((now ≡ before) × IsUntouched old new past since)
 
--- one of these images became this one by a write that was cut short
-abbrev pub WasTorn : File → ℕ → Units → (Files → Type 0) → Files → Type 0
-WasTorn file at units images image = (from : Files) × images from × TornFile file at units from image
-
 -- a count of bytes is that number for this file, and none for another
 abbrev pub bytes_for : File → File → ℕ → ℕ
 bytes_for Pkg Pkg n = n

@@ -94,5 +94,5 @@ with_state (Malformed unit) files = files
 with_state (Open entries) files = with_entries entries files
 
 -- what the files represent: the other two files, with the entries of an open log written over them
-abbrev pub reopened : Files → Files
-reopened files = with_state (log_state files.log) (without_log files)
+abbrev pub reopened_files : Files → Files
+reopened_files files = with_state (log_state files.log) (without_log files)

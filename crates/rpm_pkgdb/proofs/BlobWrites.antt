@@ -1,7 +1,7 @@
 -- A blob that is written in three parts.
 use Rattle.std.proofs.Common.{◌≡◌, ℕ, ◌+◌, ◌-◌, ◌*◌, ◌/◌, ◌%◌, ◌≤◌, List, ◌++◌, length, take, drop, sym, ap, ◌∙◌, arith, append_assoc, length-append, take-append-drop}
 use Rattle.std.proofs.lemmas.List.{length-take}
-use Rattle.rpm_pkgdb.proofs.Vocabulary.{adler, blocks_for, framed, head_of, length-cut_up, padding, with_units, SameOutside, tail_of, Torn, Units, units_of}
+use Rattle.rpm_pkgdb.proofs.Vocabulary.{adler, blocks_for, framed_blob, head_of, length-cut_up, padding, with_units, SameOutside, tail_of, Torn, Units, units_of}
 use Rattle.rpm_pkgdb.proofs.FramingLaws.{length-head_of}
 use Rattle.rpm_pkgdb.proofs.ClearLaws.{torn_outside, outside_then, outside_wider}
 use Rattle.rpm_pkgdb.proofs.PutParts.{put_append, units_of-append}
@@ -23,7 +23,7 @@ module _ (n g : ℕ) (b : List ℕ) (head front last : List ℕ) (is_head : head
   pub count-front : length (units_of front) ≡ whole
   count-front = omega (arith, length-cut_up (length front / 16) front, length-front)
 
-  all_bytes : (head ++ front) ++ last ≡ framed n g b
+  all_bytes : (head ++ front) ++ last ≡ framed_blob n g b
   all_bytes =
       let t : List ℕ = tail_of (adler (head ++ (b ++ padding size))) size in
       let r : List ℕ = drop (16 * whole) b in
@@ -34,7 +34,7 @@ module _ (n g : ℕ) (b : List ℕ) (head front last : List ℕ) (is_head : head
       ∙ ap (λ (x : List ℕ). head ++ x) (sym (append_assoc front r (padding size)) ∙ ap (λ (x : List ℕ). x ++ padding size) together))
       ∙ ap (λ (h : List ℕ). (h ++ (b ++ padding size)) ++ tail_of (adler (h ++ (b ++ padding size))) size) is_head
 
-  all_units : (units_of head ++ units_of front) ++ units_of last ≡ units_of (framed n g b)
+  all_units : (units_of head ++ units_of front) ++ units_of last ≡ units_of (framed_blob n g b)
   all_units =
       let w : length head % 16 ≡ 0 = omega (arith, ap length is_head, length-head_of n g size) in
       let v : length (head ++ front) % 16 ≡ 0 = omega (arith, length-append head front, length-front, ap length is_head, length-head_of n g size) in
@@ -42,7 +42,7 @@ module _ (n g : ℕ) (b : List ℕ) (head front last : List ℕ) (is_head : head
 
   -- the three writes are one
   pub parts_written : (start : ℕ) (F0 F1 F2 F3 : Units) → F1 ≡ with_units start (units_of head) F0 → F2 ≡ with_units (start + 1) (units_of front) F1
-      → F3 ≡ with_units (start + 1 + whole) (units_of last) F2 → F3 ≡ with_units start (units_of (framed n g b)) F0
+      → F3 ≡ with_units (start + 1 + whole) (units_of last) F2 → F3 ≡ with_units start (units_of (framed_blob n g b)) F0
   parts_written start F0 F1 F2 F3 one two three =
       let H = units_of head in
       let M = units_of front in

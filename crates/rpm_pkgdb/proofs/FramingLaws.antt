@@ -1,7 +1,7 @@
 -- A blob that is written is read back.
 use Rattle.std.proofs.Common.{◌≡◌, ℕ, suc, None, if◌then◌else◌, ◌+◌, ◌-◌, ◌*◌, ◌/◌, ◌^◌, ◌<◌, ◌≤◌, List, ◌∷◌, ◌++◌, length, take, drop, true, Some, refl, sym, ap, ◌∙◌, arith, append_assoc, length-append, length-drop, codes}
 use Rattle.rpm_pkgdb.proofs.Vocabulary.{adler, begins_with_word, blank, blob_in, blocks_at, blocks_for, bytes_of, bytes_of-cut_up, bytes_of_word, cut_up, Frame}
-use Rattle.rpm_pkgdb.proofs.Vocabulary.{frame_of, framed, from_le_bytes, head_of, HasUnits, is_framed, is_head, is_tail, length-cut_up, padding, Slot, summed_bytes}
+use Rattle.rpm_pkgdb.proofs.Vocabulary.{frame_of, framed_blob, from_le_bytes, head_of, HasUnits, is_framed, is_head, is_tail, length-cut_up, padding, Slot, summed_bytes}
 use Rattle.rpm_pkgdb.proofs.Vocabulary.{tail, tail_of, unit_at, Units, units_of, w32}
 use Rattle.std.proofs.lemmas.Nat.{from_le_bytes-to_le_bytes_4}
 use Rattle.std.proofs.lemmas.List.{take-append-le, take_all, drop-append-le, drop_all, length-replicate, length-take, same_lists, get_or-take, get_or-drop, get_or_default}
@@ -62,7 +62,7 @@ module _ (n g : ℕ) (b : List ℕ) where
   size = length b
 
   abbrev pub all : List ℕ
-  all = framed n g b
+  all = framed_blob n g b
 
   abbrev pub rest : List ℕ
   rest = (b ++ padding size) ++ tail_of (adler (summed_bytes n g b)) size

@@ -1,6 +1,6 @@
 -- The packages' blocks in what a crash leaves.
 use Rattle.std.proofs.Common.{◌≡◌, inl, inr, ℕ, ◌≤◌, List, length, take, drop, true, Option, Some, None, refl, ap, ◌∙◌}
-use Rattle.rpm_pkgdb.proofs.Vocabulary.{After, AllStay, Before, StoreBeforeOrAfter, blobs, blocks_with, CanGrow, CanMove, CanPut, framed, has_number, HasSlot}
+use Rattle.rpm_pkgdb.proofs.Vocabulary.{After, AllStay, Before, StoreBeforeOrAfter, blobs, blocks_with, CanGrow, CanMove, CanPut, framed_blob, has_number, HasSlot}
 use Rattle.rpm_pkgdb.proofs.Vocabulary.{in_file, KeepsStore, moved_slot, next_field, Numbered, option_map, Slot, slot_at, slot_for, slot_with, RepresentsStore, RepresentsBlobs}
 use Rattle.rpm_pkgdb.proofs.Vocabulary.{RepresentsPut, StaysBut, Store, Target, Units, units_of, WhileMoved, WhilePut, with_put, with_free, with_next}
 use Rattle.rpm_pkgdb.proofs.Vocabulary.{with_page, with_slot}
@@ -110,7 +110,7 @@ erases_but st k n s has number file keeps image (inr after) =
 module _ (v : Store) (F0 : Units) (st : Store) (target : Target) (g : ℕ) (old : Slot) (blob : List ℕ) (can : CanPut st target g old blob) (file : Units)
     (keeps : KeepsStore file st) (stay : AllStay v F0 st file) where
   abbrev us : Units
-  us = units_of (framed target.number g blob)
+  us = units_of (framed_blob target.number g blob)
 
   own : (image : Units) → RepresentsPut st target g blob file image → blocks_with target.number (with_put target st) image ≡ Some us
   own image stands =

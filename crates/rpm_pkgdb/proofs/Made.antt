@@ -2,7 +2,7 @@
 use Rattle.std.proofs.Common.{◌≡◌, inl, inr, ℕ, ◌+◌, ◌-◌, ◌*◌, ◌<◌, ◌≤◌, List, length, get_or, drop, true, false, not, Option, Some, None, Result, Ok, refl, sym, ap, ◌∙◌, subst, arith, codes, length-drop}
 use Rattle.rpm_pkgdb.proofs.Vocabulary.{AreSound, begins_with_word, blank, blank_store, Damage, free, head_reason, in_file, is_blank, is_nonzero, IsHeadUnit, IsLawfulCount}
 use Rattle.rpm_pkgdb.proofs.Vocabulary.{IsMade, KeepsStore, list_any, made_or_damaged, made_store, Reason, slot_at, slot_of, slots_in, Store, store, store_of_pages}
-use Rattle.rpm_pkgdb.proofs.Vocabulary.{slot_units, table_fault, unit_at, Units, unless}
+use Rattle.rpm_pkgdb.proofs.Vocabulary.{slot_units, table_fault, unit_at, Units, value_or_fault}
 use Rattle.std.proofs.lemmas.List.{get_or-take, get_or-drop, get_or_past, get_or_default, length-take, same_lists}
 use Rattle.std.proofs.lemmas.Bool.{cases_lt}
 use Rattle.std.proofs.lemmas.Bool.Decides.{nat_tests}
@@ -91,7 +91,7 @@ made_at file pages is law head none =
     }
 
 by_fault : (file : Units) (st : Store) (pages : ℕ) (fault : Option Damage) → table_fault pages (length file) (slot_units pages file) ≡ fault
-    → unless fault (made_store pages file) ≡ Ok st → (table_fault pages (length file) (slot_units pages file) ≡ None) × (made_store pages file ≡ st)
+    → value_or_fault fault (made_store pages file) ≡ Ok st → (table_fault pages (length file) (slot_units pages file) ≡ None) × (made_store pages file ≡ st)
 by_fault file st pages None e is = (e, cc)
 by_fault file st pages (Some d) e is = absurd cc
 

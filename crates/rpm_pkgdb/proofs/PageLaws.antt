@@ -127,9 +127,6 @@ pub count_after : (slots : List Slot) (moves : List Move) → length (after_move
 count_after slots [] = refl
 count_after slots (m ∷ moves) = count_after (after_move slots m) moves ∙ length-set slots m.place (moved_slot (slot_at slots m.place) m.to)
 
-pub page_count : (slots : List Slot) (end : ℕ) (page : Page) → IsPlanning slots end page → length page.slots.items ≡ length slots
-page_count slots end page planning = ap length planning.slots_are ∙ count_after slots page.moves.items
-
 module _ (slots : List Slot) (end : ℕ) (page : Page) (planning : IsPlanning slots end page) where
   pub cant_move : (place : ℕ) → IsFirstBefore page.slots.items end place
       → FitsNowhere page.slots.items (slot_at page.slots.items place).count end → CantMove slots end

@@ -3,7 +3,7 @@ use Rattle.std.proofs.Common.{◌≡◌, ℕ, zero, suc, ◌<◌, List, [], ◌�
 use Rattle.std.proofs.lemmas.Bool.{cases_Bool}
 use Rattle.rpm_pkgdb.proofs.Vocabulary.{blank_store, Damage, free, has_number, head_reason, is_blank, is_used, IsPlaced, list_any, made_or_damaged}
 use Rattle.rpm_pkgdb.proofs.Vocabulary.{made_store, option_or, own_reason, Reason, run, Slot, slot_at, slot_fault, slot_of, slot_with, slots_in, Store, store}
-use Rattle.rpm_pkgdb.proofs.Vocabulary.{slot_units, table_fault, table_is_run, unit_at, Units, unless, word}
+use Rattle.rpm_pkgdb.proofs.Vocabulary.{slot_units, table_fault, table_is_run, unit_at, Units, value_or_fault, word}
 use Rattle.rpm_pkgdb.proofs.Facts.{number_facts}
 use Rattle.rpm_pkgdb.proofs.Kept.{find_none, find_some}
 use Rattle.rpm_pkgdb.proofs.Sound.{placed_slot, no_own}
@@ -61,7 +61,7 @@ record Made (file : Units) (st : Store) : Type 0 where
   slots : st.slots ≡ slots_in (slot_units pages file)
 
 made_from : (pages : ℕ) (file : Units) (st : Store) (fault : Option Damage) → table_fault pages (length file) (slot_units pages file) ≡ fault
-    → unless fault (made_store pages file) ≡ Ok st → Made file st
+    → value_or_fault fault (made_store pages file) ≡ Ok st → Made file st
 made_from pages file st None e is =
     let same : made_store pages file ≡ st = cc in
     record { pages = pages; sound = e; slots = sym (ap (λ (s : Store). s.slots) same) }

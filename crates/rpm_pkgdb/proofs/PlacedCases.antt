@@ -1,6 +1,6 @@
 -- The rule of places at work on packages of 80 bytes, which take seven blocks each.
 use Rattle.std.proofs.Common.{◌≡◌, ℕ, List, [], ◌∷◌, ◌++◌, replicate, false, Some, None, refl}
-use Rattle.rpm_pkgdb.proofs.Vocabulary.{without_number, first_fit, first_free, free, freed_slots, page_moves, placement, placed_in, put_in, Slot, Store}
+use Rattle.rpm_pkgdb.proofs.Vocabulary.{without_number, first_fit, first_free, free, page_moves, placement, placed_in, put_in, Slot, Store}
 
 slot : ℕ → ℕ → Slot
 slot number start = record { number = number; offset = start; count = 7 }

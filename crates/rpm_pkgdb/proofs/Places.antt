@@ -14,12 +14,6 @@ find_none p (x ∷ xs) none = elim (cases_Bool (p x)) [
   | inr fails ↦ rw fails (find_none p xs (rw fails at none))
 ]
 
--- a slot that has the number, at its place
-pub record HasIt (n : ℕ) (slots : List Slot) : Type 0 where
-  pub at : ℕ
-  pub below : at < length slots
-  pub has : has_number n (slot_at slots at) ≡ true
-
 -- a number has a slot, which is found, or none has it
 pub data Search (n : ℕ) (slots : List Slot) : Type 0 where
   Here : (k : ℕ) → k < length slots → has_number n (slot_at slots k) ≡ true → slot_with n slots ≡ Some (slot_at slots k) → Search n slots

@@ -1,6 +1,6 @@
 -- What a crash leaves while a blob is put.
 use Rattle.std.proofs.Common.{◌≡◌, ◌≢◌, inl, inr, ℕ, zero, suc, ◌+◌, ◌^◌, ◌≤◌, List, [], ◌∷◌, length, true, if◌then◌else◌, Option, None, refl, sym, ap, ◌∙◌, subst, arith, set}
-use Rattle.rpm_pkgdb.proofs.Vocabulary.{After, AreSound, Before, BlobPut, BlobTorn, blocks_for, CanPut, CanSet, end_of, framed, greatest_number, HasUnits}
+use Rattle.rpm_pkgdb.proofs.Vocabulary.{After, AreSound, Before, BlobPut, BlobTorn, blocks_for, CanPut, CanSet, end_of, framed_blob, greatest_number, HasUnits}
 use Rattle.rpm_pkgdb.proofs.Vocabulary.{is_used, IsSlotUnit, IsTarget, KeepsStore, length-put, next_field, Numbered, with_units, put_after, put_before, put_inside}
 use Rattle.rpm_pkgdb.proofs.Vocabulary.{SameOutside, Slot, slot_at, slot_for, RepresentsStore, RepresentsPut, Store, Target, Torn, unit_at, Units, units_of, WhilePut}
 use Rattle.rpm_pkgdb.proofs.Vocabulary.{with_put, with_next}
@@ -57,7 +57,7 @@ module _ (st : Store) (target : Target) (target_is : IsTarget st target) where
 
 module _ (st : Store) (target : Target) (g : ℕ) (old : Slot) (blob : List ℕ) (can : CanPut st target g old blob) where
   abbrev us : Units
-  us = units_of (framed target.number g blob)
+  us = units_of (framed_blob target.number g blob)
 
   abbrev s : Slot
   s = slot_for target
@@ -161,7 +161,7 @@ module _ (st : Store) (target : Target) (g : ℕ) (old : Slot) (blob : List ℕ)
 -- the three phases, each after the one before
 module _ (st : Store) (target : Target) (g : ℕ) (old : Slot) (blob : List ℕ) (can : CanPut st target g old blob) (unit : List ℕ)
     (is : IsSlotUnit unit (slot_for target)) (F0 F1 F2 : Units) (keeps : KeepsStore F0 st)
-    (first : BlobPut target.start (units_of (framed target.number g blob)) (next_field target) F0 F1) where
+    (first : BlobPut target.start (units_of (framed_blob target.number g blob)) (next_field target) F0 F1) where
   pub second_phase : (from image : Units) → from ≡ F1 → Torn (2 + target.place) (unit ∷ []) from image → WhilePut st target g blob F0 image
   second_phase from image same torn =
       while_slotted st target g old blob can F0 keeps unit is from image

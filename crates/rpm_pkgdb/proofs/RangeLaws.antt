@@ -2,7 +2,7 @@
 use Rattle.std.proofs.Common.{◌≡◌, ◌≢◌, inl, inr, ℕ, ◌^◌, List, true, sym, ap, ◌∙◌, subst, arith, set, Option, Some, None}
 use Rattle.std.specs.Prelude.{Contains}
 use Rattle.std.proofs.lemmas.Bool.{cases_eq}
-use Rattle.rpm_pkgdb.proofs.Vocabulary.{AreRangesOf, AreSound, begins_in, Blocks, Forgets, free, HasStart, HasUsed, is_used, Range, range_of_slot, Slot, slot_at}
+use Rattle.rpm_pkgdb.proofs.Vocabulary.{AreRangesOf, AreSound, Blocks, Forgets, free, HasUsed, is_used, Range, range_of_slot, Slot, slot_at}
 use Rattle.rpm_pkgdb.proofs.Vocabulary.{without, without_keeps, without_only}
 use Rattle.rpm_pkgdb.proofs.ClearLaws.{set_here, set_other}
 use Rattle.rpm_pkgdb.proofs.Pairwise.{used_below}
@@ -17,10 +17,6 @@ module _ (pages : ℕ) (slots : List Slot) (sound : AreSound pages (2 ^ 28) slot
   ]
 
   module _ (k : ℕ) (used_k : is_used (slot_at slots k) ≡ true) where
-    pub has_start : (used : Option Blocks) (spare : ℕ) → HasUsed used spare slots → HasStart used (slot_at slots k).offset
-    has_start None spare has = tt
-    has_start (Some b) spare has = begins_in b.ranges (range_of_slot (slot_at slots k)) (has.0.each k used_k)
-
     freed_ranges : (b d : Blocks) → AreRangesOf b.ranges slots → d.ranges ≡ without (slot_at slots k).offset b.ranges → AreRangesOf d.ranges (set slots k free)
     freed_ranges b d has is =
         let below = used_below slots k used_k in

@@ -32,7 +32,7 @@ pub use Rattle.rpm_pkgdb.specs.laws.Runs.{first}
 unfoldable pub use Rattle.rpm_pkgdb.specs.Damages.{head_reason, own_reason, shared_reason, slot_units, table_fault}
 unfoldable pub use Rattle.rpm_pkgdb.specs.laws.Runs.{damage_of_slot}
 pub use Rattle.rpm_pkgdb.specs.Frame.{IsWritten, pkg, Quiet, CrashLeavesFile}
-pub use Rattle.rpm_pkgdb.specs.Framing.{framed, next_unit, padding, summed_bytes}
+pub use Rattle.rpm_pkgdb.specs.Framing.{framed_blob, next_unit, padding, summed_bytes}
 unfoldable pub use Rattle.rpm_pkgdb.specs.Framing.{head_of, tail_of}
 pub use Rattle.rpm_pkgdb.specs.Freed.{AreFreed, HasBlock, KeepsBlank}
 pub use Rattle.rpm_pkgdb.specs.Growing.{after_move, after_moves, AreBehind, AreMoves, CanAdd, grown, IsNextMove, moving_cost, NeedsPage, next_end}
@@ -57,7 +57,7 @@ pub use Rattle.rpm_pkgdb.specs.Stays.{AllStay, blocks_with, OthersStay, SameOuts
 pub use Rattle.rpm_pkgdb.specs.Store.{blank_store, in_file, is_blank, KeepsStore, next_number, OpenIs, DamageIs, SaysHere, Store}
 pub use Rattle.rpm_pkgdb.specs.laws.Parts.{made_or_damaged, made_store}
 pub use Rattle.rpm_pkgdb.specs.Store.{store_of_pages}
-pub use Rattle.rpm_pkgdb.specs.laws.Parts.{unless}
+pub use Rattle.rpm_pkgdb.specs.laws.Parts.{value_or_fault}
 unfoldable pub use Rattle.rpm_pkgdb.specs.Store.{store}
 pub use Rattle.rpm_pkgdb.specs.Undamaged.{AreSlotsApart, AreSound, IsHeadUnit, IsLawfulCount, IsMade, IsPlaced, IsSlotUnit}
 pub use Rattle.rpm_pkgdb.specs.Words.{begins_with_word}

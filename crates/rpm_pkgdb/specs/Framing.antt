@@ -25,6 +25,6 @@ abbrev pub summed_bytes : ℕ → ℕ → List ℕ → List ℕ
 summed_bytes n generation blob = head_of n generation (length blob) ++ (blob ++ padding (length blob))
 
 -- head, bytes, zeros and tail
-abbrev pub framed : ℕ → ℕ → List ℕ → List ℕ
-framed n generation blob =
+abbrev pub framed_blob : ℕ → ℕ → List ℕ → List ℕ
+framed_blob n generation blob =
     summed_bytes n generation blob ++ tail_of (adler (summed_bytes n generation blob)) (length blob)

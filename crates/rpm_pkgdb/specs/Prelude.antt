@@ -15,7 +15,7 @@ pub use Rattle.rpm_pkgdb.specs.Checksums.{adler, checksum_holds, checksums_hold,
 pub use Rattle.rpm_pkgdb.specs.Costs.{cost, opening_cost}
 pub use Rattle.rpm_pkgdb.specs.Damages.{damage_at, head_reason, own_reason, shared_reason, slot_units, table_fault}
 pub use Rattle.rpm_pkgdb.specs.Frame.{IsWritable, Quiet, CrashLeavesFile, pkg}
-pub use Rattle.rpm_pkgdb.specs.Framing.{framed, head_of, next_unit, padding, summed_bytes, tail_of}
+pub use Rattle.rpm_pkgdb.specs.Framing.{framed_blob, head_of, next_unit, padding, summed_bytes, tail_of}
 pub use Rattle.rpm_pkgdb.specs.Growing.{AreBehind, CanAdd, NeedsPage, grown, moving_cost, next_end}
 pub use Rattle.rpm_pkgdb.specs.laws.Parts.{moved_slot}
 pub use Rattle.rpm_pkgdb.specs.Pairs.{MapWithoutOne, IsAt, IsGapFor, IsGreatest, IsNextFound, IsStrictlySorted, Pairs}

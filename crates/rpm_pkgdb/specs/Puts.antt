@@ -7,7 +7,7 @@ use Rattle.rpm_pkgdb.specs.declared.plan.Plan.{Plan}
 use Rattle.rpm_pkgdb.specs.declared.plan.Target.{Target}
 use Rattle.rpm_pkgdb.specs.Blobs.{blobs, blocks_for}
 use Rattle.rpm_pkgdb.specs.Frame.{pkg, CrashLeavesFile, IsWritten}
-use Rattle.rpm_pkgdb.specs.Framing.{framed, next_unit}
+use Rattle.rpm_pkgdb.specs.Framing.{framed_blob, next_unit}
 use Rattle.rpm_pkgdb.specs.Freed.{AreFreed}
 use Rattle.rpm_pkgdb.specs.Placing.{put_in, replaced_by}
 use Rattle.rpm_pkgdb.specs.Reaches.{ReachesTo}
@@ -36,7 +36,7 @@ module _ {D : Type 0} (d : disk.Ghosts D) where
     pub others : OthersStay target.number before (pkg d old) after (pkg d new)
     -- and its own are its head, the bytes, zeros and its tail
     pub framed_in : take (blocks_for (length blob)) (drop target.start (pkg d new))
-        ≡ units_of (framed target.number before.generation blob)
+        ≡ units_of (framed_blob target.number before.generation blob)
     -- the number field says the number after a new one
     pub next : target.is_new ≡ true → unit_at (pkg d new) 1 ≡ next_unit (target.number + 1)
     -- and stays where the number isn't new
@@ -55,4 +55,4 @@ module _ {D : Type 0} (d : disk.Ghosts D) where
     pub images : CrashLeavesFile d old new (PutsTo before target blob (pkg d old))
     -- the other packages' blocks byte for byte, and its own from before or the new ones
     pub left : CrashLeavesFile d old new (StaysBut target.number
-        (Some (units_of (framed target.number before.generation blob))) before (pkg d old))
+        (Some (units_of (framed_blob target.number before.generation blob))) before (pkg d old))

@@ -1,7 +1,6 @@
 -- How far a store reaches in its file.
-use Rattle.std.specs.Prelude.{ℕ, ◌*◌, ◌≤◌, List, [], ◌∷◌, length, if◌then◌else◌, max}
+use Rattle.std.specs.Prelude.{ℕ, ◌*◌, ◌≤◌, length, max}
 use Rattle.rpm_outside.specs.Files.{Units}
-use Rattle.rpm_pkgdb.specs.declared.slot.Slot.{Slot}
 use Rattle.rpm_pkgdb.specs.Slots.{end_of, greatest}
 use Rattle.rpm_pkgdb.specs.Store.{Store}
 

@@ -5,7 +5,6 @@ use Rattle.std.specs.List.{list_any}
 use Rattle.rpm_outside.specs.Files.{Units, unit_at}
 use Rattle.rpm_pkgdb.specs.declared.slot.Slot.{Slot}
 use Rattle.rpm_pkgdb.specs.declared.slot.Damage.{Damage}
-use Rattle.rpm_pkgdb.specs.declared.slot.Reason.{Reason}
 use Rattle.rpm_pkgdb.specs.declared.slot.OpenFault.{OpenFault}
 use Rattle.rpm_pkgdb.specs.declared.slot.OpenFault.TheVariants.{Damaged, DiskFault, NoMemory}
 use Rattle.rpm_pkgdb.specs.Words.{word}

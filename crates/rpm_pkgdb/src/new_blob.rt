@@ -1,7 +1,7 @@
 //! A blob that is put: its blocks, written beside the others, named by a slot, and then what it replaces becomes zeros.
 
 ghost use Rattle.std.specs.Prelude.{◌≡◌, ℕ, ◌+◌, ◌-◌, ◌*◌, ◌/◌, ◌%◌, ◌^◌, ◌≤◌, ◌<◌, ◌++◌, IsTrue, length, take, drop, replicate, OnOk, IfSome};
-ghost use Rattle.rpm_pkgdb.specs.Prelude.{adler, Anything, BlobPut, BlobTorn, blocks_for, CanPut, FieldPut, FieldTorn, Files, framed, HasRoomFor, head_of, IsBlobPut, IsDurable, next_field, next_unit, padding, Pkg, pkg, with_units, Quiet, SameOutside, CrashLeavesFile, Store, summed_bytes, tail_of, unit_at, units_of, WhilePut, Writes};
+ghost use Rattle.rpm_pkgdb.specs.Prelude.{adler, Anything, BlobPut, BlobTorn, blocks_for, CanPut, FieldPut, FieldTorn, Files, framed_blob, HasRoomFor, head_of, IsBlobPut, IsDurable, next_field, next_unit, padding, Pkg, pkg, with_units, Quiet, SameOutside, CrashLeavesFile, Store, summed_bytes, tail_of, unit_at, units_of, WhilePut, Writes};
 
 use crate::checksum::sums;
 use crate::plan::Target;
@@ -76,7 +76,7 @@ pub fn write_blob<D: Disk>(
     requires few { length blob.now ≤ 68157432 }
     requires room { start + blocks_for (length blob.now) ≤ 2 ^ 28 }
     ensures written { OnOk result (IsTrue D.tells
-        → (D.files disk.new).pkg ≡ with_units start (units_of (framed number generation blob.now)) (D.files disk.old).pkg) }
+        → (D.files disk.new).pkg ≡ with_units start (units_of (framed_blob number generation blob.now)) (D.files disk.old).pkg) }
     ensures writes { Writes D.Disk Pkg (SameOutside start (blocks_for (length blob.now))) 0 result disk.old disk.new }
 {
     let head = blob_head(number, generation, blob.len() as u32);
@@ -111,7 +111,7 @@ fn write_first<D: Disk>(
     requires room { target.now.start + blocks_for (length blob.now) ≤ 2 ^ 28 }
     requires number { target.now.number < 4294967295 }
     ensures written { OnOk result (IsTrue D.tells
-        → BlobPut target.now.start (units_of (framed target.now.number generation blob.now)) (next_field target.now)
+        → BlobPut target.now.start (units_of (framed_blob target.now.number generation blob.now)) (next_field target.now)
         (D.files disk.old).pkg (D.files disk.new).pkg) }
     ensures next { OnOk result (IsTrue D.tells → IfSome (next_field target.now) (λ n. unit_at (D.files disk.new).pkg 1 ≡ next_unit n)) }
     ensures durable { OnOk result (IsTrue D.tells → IsDurable D.Disk Pkg disk.new) }

@@ -15,7 +15,7 @@ pub use Rattle.rpm_outside.specs.SinkFrame.{Writes}
 pub use Rattle.rpm_outside.specs.laws.Upto.{both, first_stops, Upto, upto_done, upto_last, upto_more, upto_start, upto_stop}
 pub use Rattle.rpm_qfeval.specs.Dates.{day_number, four, last_begun, month_name, spaced_number, two, weekday_name, weekday_names}
 unfoldable pub use Rattle.rpm_qfeval.specs.Dates.{day_of, HasDate, month_of, year_of}
-pub use Rattle.rpm_qfeval.specs.Formatters.{blob_text, number_text, or_none, shown, text_text}
+pub use Rattle.rpm_qfeval.specs.Formatters.{blob_text, number_text, or_none, shown_element, text_text}
 pub use Rattle.rpm_qfeval.specs.Meaning.{counts, different, direct, meaning, part_bytes, part_sizes, rounds, text_or_none}
 unfoldable pub use Rattle.rpm_qfeval.specs.Meaning.{bytes, sizes}
 pub use Rattle.rpm_qfeval.specs.Numbers.{has, bit_letters}

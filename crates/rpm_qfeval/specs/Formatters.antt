@@ -43,10 +43,10 @@ blob_text show.Arraysize bytes = codes "1"
 blob_text _ bytes = codes "(not a number)"
 
 -- an element of a value, where it has one at that place
-abbrev pub shown : Show → Elements → ℕ → Option (List ℕ)
-shown f (NumberList ns) i = option_map (number_text f (length ns)) (slice_get ns i)
-shown f (TextList ts) i = option_map (text_text f (length ts)) (slice_get ts i)
-shown f (OneBlob bytes) i = if i == 0 then Some (blob_text f bytes) else None
+abbrev pub shown_element : Show → Elements → ℕ → Option (List ℕ)
+shown_element f (NumberList ns) i = option_map (number_text f (length ns)) (slice_get ns i)
+shown_element f (TextList ts) i = option_map (text_text f (length ts)) (slice_get ts i)
+shown_element f (OneBlob bytes) i = if i == 0 then Some (blob_text f bytes) else None
 
 -- what stands for an element that isn't there
 abbrev pub or_none : Option (List ℕ) → List ℕ

@@ -14,7 +14,7 @@ use Rattle.rpm_qfparse.specs.declared.tree.Part.{Part}
 use Rattle.rpm_qfparse.specs.declared.tree.Part.TheVariants as part
 use Rattle.rpm_qfparse.specs.Tree.{Tree, End, Text, Tagged, Bracket, Condition}
 use Rattle.rpm_qfparse.specs.Shape.{parts_of_tree}
-use Rattle.rpm_qfeval.specs.Formatters.{number_text, shown, or_none}
+use Rattle.rpm_qfeval.specs.Formatters.{number_text, shown_element, or_none}
 use Rattle.rpm_qfeval.specs.Padded.{in_width}
 
 -- ---- a tag
@@ -22,8 +22,8 @@ use Rattle.rpm_qfeval.specs.Padded.{in_width}
 -- a value has this text in a round: the element of that round, the first one, or how many there are, which is shown
 -- as a number
 abbrev pub value_text : Role → Show → ℕ → Elements → List ℕ
-value_text role.Element f round v = or_none (shown f v round)
-value_text role.First f round v = or_none (shown f v 0)
+value_text role.Element f round v = or_none (shown_element f v round)
+value_text role.First f round v = or_none (shown_element f v 0)
 value_text role.Count f round v = number_text f (count_of v) (count_of v)
 
 -- a value that may be missing has this text in a round
@@ -36,7 +36,7 @@ abbrev pub found_text : TagPart → ℕ → Option Elements → List ℕ
 found_text p round v = in_width p (text_or_none p.role p.show round v)
 
 abbrev pub element_text : TagPart → Elements → ℕ → List ℕ
-element_text p v place = in_width p (or_none (shown p.show v place))
+element_text p v place = in_width p (or_none (shown_element p.show v place))
 
 -- ---- a bracket
 

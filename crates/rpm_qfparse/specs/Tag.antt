@@ -30,8 +30,8 @@ abbrev pub Reading : Type 0 → Type 0
 Reading X = Result (X × List ℕ) Faulty
 
 infixl 10 ◌>>=◌
--- goes on with what was read, and stops at a fault
-abbrev pub ◌>>=◌ : {A B : Type 0} → Result A Faulty → (A → Result B Faulty) → Result B Faulty
+-- goes on with what was found, and stops at a fault
+abbrev pub ◌>>=◌ : {A B E : Type 0} → Result A E → (A → Result B E) → Result B E
 (Ok x) >>= f = f x
 (Err e) >>= f = Err e
 

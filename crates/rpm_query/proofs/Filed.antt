@@ -1,8 +1,7 @@
 -- What is said of package files.
 use Rattle.std.proofs.Common.{◌≡◌, ℕ, Bool, true, false, not, ◌||◌, List, [], Option, Some, None, Result, Err, refl, sym, ap, ◌∙◌, subst}
-use Rattle.rpm_query.proofs.Vocabulary.{Anywhere, file_part, FileFault, HeaderAndRest, is_bad, is_of_words, is_out}
+use Rattle.rpm_query.proofs.Vocabulary.{Anywhere, file_part, FileFault, HeaderAndRest, is_bad, is_out}
 use Rattle.rpm_query.proofs.Vocabulary.{IsFileFault, bytes_left, Outputs, package_header, PartIs, Paths, PartProgress, Portion, read_part, Step, Halt, Through, Tree, whole_step}
-use Rattle.rpm_query.proofs.Vocabulary.{why_of_halt}
 use Rattle.rpm_effects.specs.Endings.{stop_in}
 use Rattle.rpm_effects.specs.Portions.{fails}
 use Rattle.rpm_effects.specs.Steps.{ToErr}
@@ -30,11 +29,6 @@ unread file.NoMemory h all old new is t =
     let same : halt.NoMemory ≡ h = cc in subst (λ (k : Halt). PartProgress {T = Bool} all (Err k) old new Anywhere) same (not_begun t)
 unread others h all old new is t = absurd cc
 
-pub never_disk : (fault : FileFault) → stop_in fault ≡ Some halt.DiskFault → ⊥
-never_disk file.ReadFault is = cc
-never_disk file.NoMemory is = cc
-never_disk others is = cc
-
 pub read_stop : (fault : FileFault) → stop_in fault ≡ Some halt.ShelfFault → fault ≡ file.ReadFault
 read_stop file.ReadFault is = refl
 read_stop others is = absurd cc
@@ -51,10 +45,6 @@ fails_one s to_out is = or_false (not (is_out s)) ∙ ap not is
     or_false : (b : Bool) → (b || false) ≡ b
     or_false true = refl
     or_false false = refl
-
-pub ends_of_files : (what : Halt) → is_of_words (why_of_halt what) ≡ false
-ends_of_files halt.DiskFault = refl
-ends_of_files others = refl
 
 -- what is said of the paths as they are is said of them as they were
 pub file_here : (tree : Tree) (j : ℕ) {now old : Paths} {path word : List ℕ} {r : Result Bool Halt} {x y : Outputs} → now ≡ old → path ≡ word

@@ -1,8 +1,7 @@
 -- How far the packages of an argument were printed, one after the other.
 use Rattle.std.proofs.Common.{◌≡◌, ℕ, ◌||◌, Bool, true, false, not, List, [], ◌∷◌, map, Option, Result, Ok, Err, refl, sym, ap, ◌∙◌, subst}
-use Rattle.rpm_query.proofs.Vocabulary.{above, Bearer, bearer_of, Files, Halt, is_bad, is_some_of, IsOfRead, list_any, NextNumberIs, outputs, Package, packages}
-use Rattle.rpm_query.proofs.Vocabulary.{packages_part, PartIs, PickFault, picks, Reach, PartProgress, Recalls, Recent, Selection, Serves, Step, StepIs, Store}
-use Rattle.rpm_effects.specs.declared.tally.Halt.TheVariants as halt
+use Rattle.rpm_query.proofs.Vocabulary.{above, Bearer, bearer_of, Files, Halt, is_bad, is_some_of, list_any, NextNumberIs, outputs, Package, packages}
+use Rattle.rpm_query.proofs.Vocabulary.{packages_part, PartIs, PickFault, picks, Reach, Recalls, Recent, Selection, Serves, Step, StepIs, Store}
 use Rattle.rpm_print.specs.laws.Printed.{fails_more, some_more, none_more}
 use Rattle.rpm_effects.specs.laws.Reaching.{StepsSoFar, goes_start, goes_more, goes_stop, goes_end}
 use Rattle.rpm_effects.specs.laws.Stopping.{reached_first}
@@ -38,12 +37,6 @@ pub record PrintedTo (step : ℕ → ℕ × Package → Step) (es : List (ℕ ×
   pub bad : (j : ℕ) → list_any is_bad (map (step j) (above after es)) ≡ (fails || list_any is_bad (map (step j) (above n es)))
   pub there : is_some_of (above after es) ≡ (some || is_some_of (above n es))
 
-goes_halts : {ot et : Bool} {all left : List Step} {o e o' e' : List ℕ} → StepsSoFar ot et all left o e o' e' → (what : Halt) (reads_to : Bearer → Type 0)
-    → IsOfRead what → PartProgress {T = Bool} all (Err what) (outputs ot o et e) (outputs ot o' et e') reads_to
-goes_halts {left = left} g halt.DiskFault reads_to is = record { done = g.done; rest = left; all_is = g.parts; through = g.went }
-goes_halts {left = left} g halt.NoMemory reads_to is = record { done = g.done; rest = left; all_is = g.parts; through = g.went }
-goes_halts g others reads_to is = absurd cc
-
 module _ {step : ℕ → ℕ × Package → Step} {es : List (ℕ × Package)} {after : ℕ} {ot et : Bool} {o e : List ℕ} where
   pub printed_none : PrintedTo step es after after false false ot et o e o e
   printed_none = record {
@@ -78,11 +71,6 @@ module _ {step : ℕ → ℕ × Package → Step} {es : List (ℕ × Package)} {
 
     pub some_last : above n es ≡ [] → some ≡ is_some_of (above after es)
     some_last none = none_more some (is_some_of (above after es)) (printed.there ∙ ap (λ (xs : List (ℕ × Package)). some || is_some_of xs) none)
-
-    -- the next one isn't found
-    pub printed_halts : {what : Halt} → IsOfRead what → (j : ℕ) {reads_to : Bearer → Type 0}
-        → PartIs (packages_part (step j) after es) (Err what) (outputs ot o et e) (outputs ot o' et e') reads_to
-    printed_halts {what = what} of j {reads_to = reads_to} = record { steps = goes_halts (printed.goes j) what reads_to of; fails = tt }
 
     -- or its step stops
     pub printed_stops : {entry : ℕ × Package} {what : Halt} {o'' e'' : List ℕ} → above n es ≡ entry ∷ above entry.0 es → (j : ℕ)

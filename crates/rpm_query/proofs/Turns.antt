@@ -1,14 +1,14 @@
 -- The arguments of a command, one after the other.
 use Rattle.rpm_query.proofs.Vocabulary.{argument_part, argument_reach, Bearer, Chosen, Course, Database, Files, Halt, HasIndexRows, is_indexed, Outputs}
-use Rattle.rpm_query.proofs.Vocabulary.{outputs, packages, PartIs, Portion, Reach, reach_all, reach_before, reach_sum, reached_by, ReadsOf, store_of, Through, Tree}
+use Rattle.rpm_query.proofs.Vocabulary.{outputs, packages, PartIs, Portion, Reach, reach_all, reach_before, reach_sum, reached_by, ReadsOf, store_of, Tree}
 use Rattle.rpm_query.proofs.Vocabulary.{CommandProgress, why_of_halt}
-use Rattle.std.proofs.Common.{◌≡◌, ℕ, ◌+◌, ◌<◌, ◌≤◌, ◌≢◌, Bool, true, false, if◌then◌else◌, List, [], ◌++◌, map, drop, length, Result, Ok, Err, Some, refl, ap}
-use Rattle.std.proofs.Common.{◌∙◌, subst, arith}
+use Rattle.std.proofs.Common.{◌≡◌, ℕ, ◌+◌, ◌≤◌, Bool, true, false, if◌then◌else◌, List, ◌++◌, map, drop, Result, Ok, Err, Some, refl, ap}
+use Rattle.std.proofs.Common.{subst, arith}
 use Rattle.std.specs.Prelude.{slice_get}
 use Rattle.rpm_effects.specs.Portions.{before_others, parts_in_turn}
-use Rattle.rpm_effects.specs.laws.Parts.{drop_get, none_left, went_stop}
+use Rattle.rpm_effects.specs.laws.Parts.{drop_get, went_stop}
 use Rattle.rpm_print.specs.laws.Reached.{rows_at}
-use Rattle.rpm_effects.specs.laws.Reaching.{StepsSoFar, goes_start, goes_more, goes_stop, goes_end}
+use Rattle.rpm_effects.specs.laws.Reaching.{StepsSoFar, goes_start, goes_more, goes_stop}
 use Rattle.rpm_effects.specs.laws.Stopping.{reached_reads}
 use Rattle.rpm_query.specs.laws.Sums.{reads_by, before_next, before_some, get_map}
 
@@ -65,26 +65,6 @@ module _ {each : ℕ → List ℕ → Portion} {f : ℕ → List ℕ} {args : Li
         went_stop Bool all what (outputs ot o et e) (outputs ot o'' et e'') Q
         (goes_stop ot et all.steps (parts_in_turn each k (map f (drop k args))).steps (each k (f word)).steps rest.steps o o' o'' e e' e'' turn_steps far.goes
         Bool Bool what Q (reached_reads {T = Bool} (each k (f word)).steps (Err what) (outputs ot o' et e') (outputs ot o'' et e'') P Q so part.steps))
-
-  -- all of them were
-  module _ (past : length args ≤ k) where
-    none : parts_in_turn each k (map f (drop k args)) ≡ parts_in_turn each k []
-    none = ap (λ (ws : List ℕ). parts_in_turn each k (map f ws)) (none_left args k past)
-
-    through : Through (parts_in_turn each 0 (map f args)).steps (outputs ot o et e) (outputs ot o' et e')
-    through = goes_end ot et (parts_in_turn each 0 (map f args)).steps (parts_in_turn each k (map f (drop k args))).steps o o' e e'
-        (ap (λ (c : Course). c.steps) none) far.goes
-
-    total : (parts_in_turn each 0 (map f args)).failed ≡ failed
-    total = omega (arith, far.count, ap (λ (c : Course). c.failed) none)
-
-    pub turned_done : failed ≡ 0 → Through (parts_in_turn each 0 (map f args)).steps (outputs ot o et e) (outputs ot o' et e')
-        × ((parts_in_turn each 0 (map f args)).failed ≡ 0)
-    turned_done zero = (through, total ∙ zero)
-
-    pub turned_failed : failed ≢ 0 → Through (parts_in_turn each 0 (map f args)).steps (outputs ot o et e) (outputs ot o' et e')
-        × ((parts_in_turn each 0 (map f args)).failed ≡ failed) × (0 < failed)
-    turned_failed some = (through, total, omega (arith, some))
 
 -- ---- what is said of one of them, and read for it
 

@@ -22,9 +22,8 @@ pub use Rattle.rpm_outside.specs.declared.disk.File.TheVariants.{Idx, Pkg}
 pub use Rattle.rpm_outside.specs.laws.Looking.{looks_at_from, looks_more, looks_then}
 pub use Rattle.rpm_pkgdb.specs.Store.{Store}
 pub use Rattle.rpm_effects.specs.Answers.{PartIs, PartProgress, StepIs, CommandProgress}
-pub use Rattle.rpm_command.specs.Answers.{is_some_of}
+pub use Rattle.rpm_select.specs.Picks.{is_some_of}
 pub use Rattle.rpm_effects.specs.Endings.{why_of_halt}
-pub use Rattle.rpm_effects.specs.Classes.{is_of_words, IsOfRead}
 pub use Rattle.rpm_outside.specs.Frame.{OnlyReads}
 pub use Rattle.rpm_db.specs.Frame.{packages_in}
 pub use Rattle.rpm_print.specs.Frame.{OnlyReadsIndexed, pkg_read}
@@ -47,7 +46,7 @@ unfoldable pub use Rattle.rpm_query.specs.Reach.{argument_reach}
 pub use Rattle.rpm_query.specs.declared.printing.PrintedPackages.{PrintedPackages}
 pub use Rattle.rpm_select.specs.laws.Parts.{has_header_key, has_key_in, is_candidate}
 unfoldable pub use Rattle.rpm_select.specs.Candidates.{candidates, keys_asked}
-pub use Rattle.rpm_select.specs.Picks.{entry_in, NextIs, NextNumberIs, number_in}
+pub use Rattle.rpm_select.specs.Picks.{entry_in, NextNumberIs}
 pub use Rattle.rpm_select.specs.Reach.{Everything, HasIndexRows, reach, Reach, reach_all, reach_to, Serves, These}
 pub use Rattle.rpm_select.specs.laws.Unindexed.{unindexed_reach}
 pub use Rattle.rpm_select.specs.Recents.{Recalls}
@@ -55,7 +54,6 @@ pub use Rattle.rpm_select.specs.Selections.{is_picked, takes_bad}
 pub use Rattle.rpm_select.specs.laws.Parts.{takes_read}
 unfoldable pub use Rattle.rpm_select.specs.Selections.{picks, takes_header}
 pub use Rattle.rpm_select.specs.declared.picked.PickFault.{PickFault}
-pub use Rattle.rpm_select.specs.declared.picked.Picked.{Picked}
 pub use Rattle.rpm_select.specs.declared.recent.Recent.{Recent}
 pub use Rattle.rpm_select.specs.declared.selection.Selection.{Selection}
 pub use Rattle.rpm_select.specs.laws.Costing.{reach_some}

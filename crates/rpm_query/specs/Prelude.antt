@@ -13,7 +13,7 @@ pub use Rattle.rpm_select.specs.Selections.{picks}
 pub use Rattle.rpm_words.specs.Words.{word_at}
 pub use Rattle.rpm_effects.specs.Progress.{Anywhere}
 pub use Rattle.rpm_effects.specs.Answers.{PartIs, CommandProgress}
-pub use Rattle.rpm_command.specs.Answers.{is_some_of}
+pub use Rattle.rpm_select.specs.Picks.{is_some_of}
 pub use Rattle.rpm_command.specs.Asked.{prints_packages}
 pub use Rattle.rpm_effects.specs.Classes.{IsOfPrint, IsOfRead, is_foreign, is_of_opening, is_of_words}
 pub use Rattle.rpm_outside.specs.Frame.{DiskFault, OnlyReads}
@@ -29,7 +29,7 @@ pub use Rattle.rpm_print.specs.Reads.{ReadsIn, ReadsOf, reach_sum, reached_by}
 pub use Rattle.rpm_effects.specs.Portions.{before_others, parts_in_turn, nothing, told_portion}
 pub use Rattle.rpm_query.specs.PackageFiles.{file_part, query_files}
 pub use Rattle.rpm_query.specs.inner.PackageFiles.{read_part}
-pub use Rattle.rpm_query.specs.Queries.{argument_part, fails_in, halt_of_pick, lent, missing_line_part, missing_part}
+pub use Rattle.rpm_query.specs.Queries.{argument_part, fails_in, lent, missing_line_part, missing_part}
 pub use Rattle.rpm_query.specs.Queries.{question_of}
 pub use Rattle.rpm_query.specs.Reach.{IsOfChain, IsOfChains, argument_reach}
 pub use Rattle.rpm_effects.specs.Lines.{answer_of_line}

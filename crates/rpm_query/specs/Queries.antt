@@ -23,10 +23,7 @@ use Rattle.rpm_effects.specs.Steps.{whole_step, Step, ToOut, ToErr, Course, idle
 use Rattle.rpm_effects.specs.Portions.{Portion, nothing, fails, before_others, parts_in_turn, numbers_of_steps}
 use Rattle.rpm_effects.specs.Portions.{RisesFrom}
 use Rattle.rpm_print.specs.Printed.{packages_part, step_of, exported_step}
-use Rattle.rpm_select.specs.declared.picked.PickFault.{PickFault}
-use Rattle.rpm_select.specs.declared.picked.PickFault.TheVariants as pick
 use Rattle.rpm_effects.specs.declared.tally.Halt.{Halt}
-use Rattle.rpm_effects.specs.declared.tally.Halt.TheVariants as halt
 use Rattle.rpm_query.specs.declared.printing.PrintedPackages.{PrintedPackages}
 
 -- ---- an argument
@@ -96,12 +93,6 @@ argument_part tree packages chosen after j text =
 abbrev pub fails_in : Result PrintedPackages Halt → Result Bool Halt
 fails_in (Ok p) = Ok p.fails
 fails_in (Err stop) = Err stop
-
--- a fault of a picker
-abbrev pub halt_of_pick : PickFault → Halt
-halt_of_pick (pick.BadIndex unit) = halt.BadIndex unit
-halt_of_pick pick.DiskFault = halt.DiskFault
-halt_of_pick pick.NoMemory = halt.NoMemory
 
 -- ---- a query of the database
 

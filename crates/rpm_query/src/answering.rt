@@ -4,10 +4,10 @@ ghost use Rattle.std.specs.Prelude.{◌≡◌, ◌+◌, ◌≤◌, ℕ, IsTrue, 
 ghost use Rattle.rpm_query.specs.Prelude.{above, argument_part, argument_reach, packages_cost_to, DiskFault, HaltHands, HasKeptRows, is_indexed, is_some_of, IsAskable, IsOfChain, IsOfPrint, IsOfRead, lent, OnlyReads, packages_in, PartIs, OnlyReadsIndexed, picks, Pkg, pkg_read, question_of, reach_all, reach_to, ReadsOf, Recalls, Serves, shown_outputs};
 
 use crate::missing::put_missing_part;
-use crate::printing::{halt_of_pick, print_above};
+use crate::printing::print_above;
 use rpm_command::Request;
 use rpm_db::Db;
-use rpm_effects::Halt;
+use rpm_effects::{Halt, halt_of_pick};
 use rpm_outside::{Buffered, Disk, File, Sink};
 use rpm_qfparse::Format;
 use rpm_select::{Capability, Picker, Recent, Selection};

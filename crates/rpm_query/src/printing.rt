@@ -1,16 +1,16 @@
 //! The packages that a question picks, printed one after the other.
 
 ghost use Rattle.std.specs.Prelude.{◌≡◌, ◌≢◌, ℕ, ◌+◌, ◌-◌, ◌≤◌, ◌||◌, [], false, true, IsTrue, Err, IfOk, IfErr};
-ghost use Rattle.rpm_query.specs.Prelude.{above, packages_cost, packages_cost_to, DiskFault, fails_in, HaltHands, HasKeptRows, is_some_of, IsAskable, IsOfPrint, OnlyReads, packages_in, packages_part, PartIs, picks, Pkg, pkg_read, prints_packages, reach_all, reach_to, ReadsIn, Recalls, Serves, shown_outputs, step_by, halt_of_pick, unindexed_reach};
+ghost use Rattle.rpm_query.specs.Prelude.{above, packages_cost, packages_cost_to, DiskFault, fails_in, HaltHands, HasKeptRows, is_some_of, IsAskable, IsOfPrint, OnlyReads, packages_in, packages_part, PartIs, picks, Pkg, pkg_read, prints_packages, reach_all, reach_to, ReadsIn, Recalls, Serves, shown_outputs, step_by, unindexed_reach};
 ghost use Rattle.rpm_select.specs.Reach.{asks_index};
 
 use rpm_command::Request;
 use rpm_db::Db;
-use rpm_effects::Halt;
+use rpm_effects::{Halt, halt_of_pick};
 use rpm_outside::{Buffered, Disk, File, Sink};
 use rpm_print::print_picked;
 use rpm_qfparse::Format;
-use rpm_select::{PickFault, Picker, Recent, Selection};
+use rpm_select::{Picker, Recent, Selection};
 use std::alloc::Global;
 
 /// What became of the packages of an argument: whether there were some, and whether the argument fails for them.
@@ -18,18 +18,6 @@ use std::alloc::Global;
 pub struct PrintedPackages {
     pub some: bool,
     pub fails: bool,
-}
-
-/// What halts a command where a picker fails.
-pub fn halt_of_pick(fault: PickFault) -> Halt
-    ensures value { result ≡ halt_of_pick fault }
-    ensures class { IsOfPrint result }
-{
-    match fault {
-        PickFault::BadIndex { unit } => Halt::BadIndex { unit },
-        PickFault::DiskFault => Halt::DiskFault,
-        PickFault::NoMemory => Halt::NoMemory,
-    }
 }
 
 /// Begins to go through what a selection picks that asks no index: that reads nothing, and doesn't fail.

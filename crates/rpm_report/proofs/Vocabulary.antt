@@ -31,7 +31,7 @@ pub use Rattle.rpm_outside.specs.declared.buffered.Buffered.{Buffered}
 pub use Rattle.rpm_outside.specs.declared.disk.File.TheVariants.{Pkg}
 pub use Rattle.rpm_outside.specs.laws.Looking.{looks_more, looks_none, looks_then}
 pub use Rattle.rpm_effects.specs.Answers.{PartIs, PartProgress, StepIs, CommandProgress}
-pub use Rattle.rpm_command.specs.Answers.{is_some_of}
+pub use Rattle.rpm_select.specs.Picks.{is_some_of}
 pub use Rattle.rpm_outside.specs.Frame.{DiskFault, OnlyReads}
 pub use Rattle.rpm_db.specs.Frame.{packages_in}
 pub use Rattle.rpm_print.specs.Frame.{OnlyReadsIndexed, pkg_read, TellsOut}

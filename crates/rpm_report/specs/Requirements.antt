@@ -30,7 +30,7 @@ use Rattle.rpm_effects.specs.Steps.{bearer, whole_step, Step, ToOut}
 use Rattle.rpm_effects.specs.Portions.{Portion, nothing, fails, together}
 use Rattle.rpm_print.specs.Printed.{bad_step}
 use Rattle.rpm_report.specs.Labels.{header_label, package_text}
-use Rattle.rpm_effects.specs.Answers.{PartIs, PartProgress}
+use Rattle.rpm_effects.specs.Answers.{PartIs}
 use Rattle.rpm_effects.specs.Endings.{why_of_halt}
 
 -- ---- what is said of a package
@@ -105,11 +105,6 @@ order_part packages classes = portion_behind (bad_parts packages)
 pub record IsListed (g : Network) (all_told : Bool) (classes : List (List ℕ)) : Type 0 where
   pub each : (k : ℕ) → k < length classes → IsNextClass g (take k classes) (slice_index_or classes k [])
   pub all : all_told ≡ true → (n : ℕ) → Contains g.numbers n → Lists classes n
-
--- how far the classes were told
-abbrev pub ClassesAre : FinMap nat_cmp Package → Result (Unit {0}) Halt → Outputs → Outputs → Type 0
-ClassesAre packages result old new = (classes : List (List ℕ)) × IsListed (graph_of packages) (is_ok result) classes
-    × PartProgress (flat_map (class_steps packages) classes) result old new Anywhere
 
 -- a report tells the order after the packages that can't be read
 abbrev pub OrderPartIs : FinMap nat_cmp Package → Result Bool Halt → Outputs → Outputs → Type 0

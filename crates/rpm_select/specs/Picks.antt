@@ -27,6 +27,11 @@ abbrev pub package_in : Picked → Package
 package_in (Good number blob) = state.Good blob
 package_in (Bad number) = state.Bad
 
+-- whether anything is picked
+abbrev pub is_some_of : {X : Type 0} → List X → Bool
+is_some_of [] = false
+is_some_of (x ∷ xs) = true
+
 -- the first of them, or none where there is none
 abbrev pub NextIs : List (ℕ × Package) → Result (Option Picked) PickFault → Type 0
 NextIs left (Ok None) = left ≡ []

@@ -1,5 +1,5 @@
 -- Files that count for a path, and names with what is beside them.
-use Rattle.std.proofs.Common.{◌≡◌, ℕ, zero, suc, ◌+◌, ◌<◌, List, [], ◌∷◌, ◌++◌, length, drop, Bool, true, false, ◌&&◌, ◌||◌, Some, refl, sym, ap, ◌∙◌, inl, inr, arith}
+use Rattle.std.proofs.Common.{◌≡◌, ℕ, zero, suc, ◌+◌, List, [], ◌∷◌, ◌++◌, drop, Bool, true, false, ◌&&◌, ◌||◌, Some, refl, sym, ap, ◌∙◌, inl, inr, arith}
 use Rattle.std.specs.Prelude.{slice_get}
 use Rattle.rpm_tags.proofs.Vocabulary.{base_name, beside, bytes_eq, counts_for, file_name, file_names, first_or, list_any, zip}
 use Rattle.std.proofs.lemmas.Bool.{cases_Bool}
@@ -71,12 +71,6 @@ pub first_is : (xs : List ℕ) (i n : ℕ) → slice_get xs i ≡ Some n → fir
 first_is [] i n at = absurd cc
 first_is (x ∷ xs) zero n at = cc
 first_is (x ∷ xs) (suc i) n at = first_is xs i n at
-
-pub none_behind : (xs : List ℕ) (i : ℕ) → length xs < i + 1 → first_or 0 (drop i xs) ≡ 0
-none_behind [] zero past = refl
-none_behind [] (suc i) past = refl
-none_behind (x ∷ xs) zero past = absurd (omega arith)
-none_behind (x ∷ xs) (suc i) past = none_behind xs i (omega arith)
 
 drop_drop : {X : Type 0} (xs : List X) (i j : ℕ) → j ≡ i + 1 → drop 1 (drop i xs) ≡ drop j xs
 drop_drop [] zero j next = rw next refl

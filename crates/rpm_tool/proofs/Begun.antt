@@ -2,7 +2,7 @@
 use Rattle.std.proofs.Common.{◌≡◌, ◌∙◌, ℕ, ◌+◌, ◌≤◌, Bool, true, false, not, List, [], Some, refl, sym, ap}
 use Rattle.std.proofs.lemmas.Bool.{and_parts}
 use Rattle.rpm_tool.proofs.Vocabulary.{AskParts, by_key, Chosen, asked_task, request_of, PlainProgress, Files, is_foreign, is_of_words, is_package}
-use Rattle.rpm_tool.proofs.Vocabulary.{is_query, log_state, Mode, needs_no_index, of_files, opens_index, outputs, PlainAnswer, read_to, reopened, store, Through}
+use Rattle.rpm_tool.proofs.Vocabulary.{is_query, log_state, Mode, needs_no_index, of_files, opens_index, outputs, PlainAnswer, read_to, reopened_files, store, Through}
 use Rattle.rpm_tool.proofs.Vocabulary.{task_in, TaskParts, text_of, Tree, Why}
 use Rattle.rpm_words.specs.declared.switch.Chosen.TheVariants as by
 use Rattle.rpm_words.specs.declared.ask.Mode.TheVariants as mode
@@ -15,7 +15,7 @@ use Rattle.rpm_effects.specs.laws.Reaching.{through_none}
 pub not_begun : (tree : Tree) (words : List (List ℕ)) (a : AskParts) (files : Files) (out_tells err_tells : Bool) (o e : List ℕ) (n : ℕ)
     → PlainAnswer tree words a files why.NoMemory (outputs out_tells o err_tells e) (outputs out_tells o err_tells e) n n
 not_begun tree words a files ot et o e n =
-    let file = (reopened files).pkg in
+    let file = (reopened_files files).pkg in
     let x = outputs ot o et e in
     let none : Through [] x x = through_none {ot = ot} {et = et} o e in
     loaded_memory (PlainProgress tree words a file n n) (store file) x none

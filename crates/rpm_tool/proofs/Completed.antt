@@ -2,7 +2,7 @@
 use Rattle.std.proofs.Common.{◌≡◌, ℕ, ◌+◌, ◌^◌, ◌≤◌, Bool, true, false, List, Result, Ok, subst, arith}
 use Rattle.rpm_tool.proofs.Vocabulary.{AskParts, Damage, request_of, StoreAnswerBy, KeyedProgress, Files, FullByUnits, IndexFullIs, HasRoom, is_done_or_outside}
 use Rattle.rpm_tool.proofs.Vocabulary.{is_foreign, IsSound, IsUsable, IsUsableDatabase, keyed_to, KeyedAnswer, LogAnswer, log_state, LogState, Malformed, OnUsable}
-use Rattle.rpm_tool.proofs.Vocabulary.{StoreAnswer, Outputs, reopened, Store, store, Tree, UnlessFull, Why}
+use Rattle.rpm_tool.proofs.Vocabulary.{StoreAnswer, Outputs, reopened_files, Store, store, Tree, UnlessFull, Why}
 use Rattle.rpm_effects.specs.declared.answer.Why.TheVariants as why
 use Rattle.rpm_tool.proofs.Requests.{does_outside}
 
@@ -19,10 +19,10 @@ left Do making needed (why.IndexFull u) old new outside went full room = absurd 
 left Do making needed others old new outside went full room = outside went
 
 pub completes : (tree : Tree) (words : List (List ℕ)) (a : AskParts) (files : Files) (w : Why) (old new : Outputs) (before now : ℕ) → is_foreign w ≡ false
-    → KeyedAnswer tree words a files w old new before now → IndexFullIs (reopened files) w → IsUsableDatabase files → HasRoom (reopened files)
+    → KeyedAnswer tree words a files w old new before now → IndexFullIs (reopened_files files) w → IsUsableDatabase files → HasRoom (reopened_files files)
     → is_done_or_outside w ≡ true
 completes tree words a files w old new before now own went full group room =
-    let r = reopened files in
+    let r = reopened_files files in
     let s = group.usable.value in
     let Do = KeyedProgress tree words a r before now in
     let is = loaded_in (IsUsable r.pkg r.idx) Do s w old new (log_state files.log) (store r.pkg) group.sound group.usable.undamaged went in

@@ -7,7 +7,7 @@ use Rattle.rpm_outside.specs.declared.sink.Sink as sink
 use Rattle.rpm_tool.proofs.Vocabulary.{Answers, AnswersChange, AnswersKeyed, AnswersOfFiles, AnswersPlain, AnswersText, ask, asked_task}
 use Rattle.rpm_tool.proofs.Vocabulary.{AskParts, asks_change, asks_format, Buffered, by_key, changes_in, AnswersCommand, EmptyBy, is_done, is_foreign}
 use Rattle.rpm_tool.proofs.Vocabulary.{HasCauseAt, inner, is_of_words, OnlyReadsPackages, needs_none, of_files, outputs, Pkg, ran, reads_shelf}
-use Rattle.rpm_tool.proofs.Vocabulary.{reopened, Run, setting_at, Setting, Streams}
+use Rattle.rpm_tool.proofs.Vocabulary.{reopened_files, Run, setting_at, Setting, Streams}
 use Rattle.rpm_tool.proofs.Vocabulary.{task_course, TaskParts, text_of, Tree, Why}
 use Rattle.std.specs.Option.{option_map_or}
 use Rattle.rpm_effects.specs.Hands.{Hand, EndHands}
@@ -73,7 +73,7 @@ module _ {D S : Type 0} {d : disk.Ghosts D} {s : shelf.Ghosts S} {r : Run d} {at
 
   pub does_change : {task : TaskParts} → asked_task r.words a ≡ Some task
       → (IsTrue d.tells → (reads_shelf task ≡ true → IsTrue s.tells) → AnswersChange r task (task_course (s.paths at.shelf) at.moment task))
-      → (IsTrue d.tells → EmptyBy (needs_none task) (reopened (d.files r.found)) r.why)
+      → (IsTrue d.tells → EmptyBy (needs_none task) (reopened_files (d.files r.found)) r.why)
       → (reads_shelf task ≡ false → at.shelf_left ≡ at.shelf) → AnswersCommand r at a tree
   does_change {task = task} changing went empty shelf = record {
     plain = λ _f _k other _t told. none_said other changing;
@@ -82,7 +82,7 @@ module _ {D S : Type 0} {d : disk.Ghosts D} {s : shelf.Ghosts S} {r : Run d} {at
     keyed = λ is told. absurd (keyed_unchanging r.words a task is changing);
     changes = λ other is. subst (λ (t : TaskParts). IsTrue d.tells → (reads_shelf t ≡ true → IsTrue s.tells)
         → AnswersChange r t (task_course (s.paths at.shelf) at.moment t)) (same_some changing is) went;
-    empty = λ other is. subst (λ (t : TaskParts). IsTrue d.tells → EmptyBy (needs_none t) (reopened (d.files r.found)) r.why)
+    empty = λ other is. subst (λ (t : TaskParts). IsTrue d.tells → EmptyBy (needs_none t) (reopened_files (d.files r.found)) r.why)
         (same_some changing is) empty;
     looks = λ _k other. none_said other changing;
     shelf_unread = λ _f reads. shelf (sym (ap (λ (o : Option TaskParts). option_map_or reads_shelf o false) changing) ∙ reads);
@@ -173,7 +173,7 @@ module _ {D S : Type 0} {d : disk.Ghosts D} {s : shelf.Ghosts S} (words : List (
     keyed = λ is told. unbegun d tree words a ot et o e it;
     changes = λ task is told reads. unmade_one d words task (task_course (s.paths at) now task) it it refl
         (same_kept (d.files it)) (idle_run d it) (outputs ot o et e) why.NoMemory tt;
-    empty = λ task is told. memory_empty (needs_none task) (reopened (d.files it));
+    empty = λ task is told. memory_empty (needs_none task) (reopened_files (d.files it));
     looks = λ _k _c. leaves_none d stays;
     shelf_unread = λ _f _r. refl;
   }

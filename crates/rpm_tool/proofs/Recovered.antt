@@ -7,7 +7,7 @@ use Rattle.rpm_tool.proofs.Vocabulary.{AnswersKeyed, AreLawful, AreLawfulDatabas
 use Rattle.rpm_tool.proofs.Vocabulary.{Damage, Database, request_of, StoreAnswerBy, KeyedProgress, RequestProgress, Files, FullByUnits, IndexFullIs, has_index, HasUsableIndex, images, is_blank_database}
 use Rattle.rpm_tool.proofs.Vocabulary.{is_done, is_foreign, is_indexed, is_of_opening, is_query, IsAtRest, IsLawful, IsLawfulStill, IsOpened, IsSound}
 use Rattle.rpm_tool.proofs.Vocabulary.{IsUsable, keyed_cost, keyed_to, KeepsLog, KeepsPackages, leaves_then, leaves_weaker, log_state, LogState, must_rebuild}
-use Rattle.rpm_tool.proofs.Vocabulary.{OnUsable, StoreAnswer, Outputs, outputs, pkg_read, ran, reach_sum, reached_by, RecoverKeeps, RecoverSays, Remade, reopened}
+use Rattle.rpm_tool.proofs.Vocabulary.{OnUsable, StoreAnswer, Outputs, outputs, pkg_read, ran, reach_sum, reached_by, RecoverKeeps, RecoverSays, Remade, reopened_files}
 use Rattle.rpm_tool.proofs.Vocabulary.{ReopensAsOneOf, store_of, IsLawfulAndSame, started, Store, store, Through, Tree, Units, units_needed, without_log, Why}
 use Rattle.rpm_db.specs.Openings.{FullOpenIs, OpeningReads, OpensAs, WritesNothing}
 use Rattle.rpm_db.specs.Runs.{ImageFrom}
@@ -133,14 +133,14 @@ rest_same old new keeps rest = subst (λ (l : LogState). RecoverKeeps l old new)
 module _ {D : Type 0} (d : disk.Ghosts D) {old mid : D} (first : CrashLeaves d old mid (ReopensAsOneOf (images d old))) (here : images d old (d.files old))
     (finished : Bool) (says : RecoverSays (log_state (d.files old).log) (Ok finished))
     (keeps : RecoverKeeps (log_state (d.files old).log) (d.files old) (d.files mid))
-    (closed : log_state (d.files mid).log ≡ Closed) (stand : without_log (d.files mid) ≡ reopened (d.files old))
+    (closed : log_state (d.files mid).log ≡ Closed) (stand : without_log (d.files mid) ≡ reopened_files (d.files old))
     (durable : AreDurable (d.files mid) (images d mid)) where
   -- whose log is that of the files as they were then
   module _ (image : Files) (log : image.log ≡ (d.files mid).log) (pkg : image.pkg ≡ (d.files mid).pkg) where
     shut : log_state image.log ≡ Closed
     shut = ap log_state log ∙ closed
 
-    same_packages : (reopened image).pkg ≡ (reopened (d.files old)).pkg
+    same_packages : (reopened_files image).pkg ≡ (reopened_files (d.files old)).pkg
     same_packages = ap (λ (f : Files). f.pkg) (shut_stands image shut) ∙ pkg ∙ ap (λ (f : Files). f.pkg) stand
 
     keeps_log : KeepsLog (d.files old) image
@@ -183,7 +183,7 @@ module _ {D : Type 0} (d : disk.Ghosts D) {old mid : D} (first : CrashLeaves d o
       → DidIndexed tree words a (d.files mid) (d.files new) given before after (pkg_read d mid) (pkg_read d new)
       → AnswersKeyed (ran d words given 0 (old, new) (before, after)) a tree
   recovered tree words a new given before after same made any stops stays here =
-      let r = reopened (d.files old) in
+      let r = reopened_files (d.files old) in
       let now = pkg_read d new in
       let did : DidIndexed tree words a r (d.files new) given before after (pkg_read d old) now =
       subst (λ (n : ℕ). DidIndexed tree words a r (d.files new) given before after n now) same
@@ -219,7 +219,7 @@ pub unbegun : {D : Type 0} (d : disk.Ghosts D) (tree : Tree) (words : List (List
     → AnswersKeyed (ran d words why.NoMemory 0 (it, it) (outputs ot o et e, outputs ot o et e)) a tree
 unbegun d tree words a ot et o e it = record {
   went =
-      (let r = reopened (d.files it) in
+      (let r = reopened_files (d.files it) in
       let n = pkg_read d it in
       let none : Through [] (outputs ot o et e) (outputs ot o et e) = through_none {ot = ot} {et = et} o e in
       loaded_memory (requests tree words a r n n) (store r.pkg) (outputs ot o et e) none (undone_memory tree words a (outputs ot o et e) none r n n)

@@ -1,7 +1,7 @@
 -- What a command does with the database that it opens: where nothing was done, and how it ends.
 use Rattle.std.proofs.Common.{◌≡◌, ℕ, Bool, true, false, List, [], refl}
 use Rattle.rpm_tool.proofs.Vocabulary.{always_keyed, Anywhere, AskParts, Bearer, check_files, Course, Request, request_of, RequestProgress, export, graph_of}
-use Rattle.rpm_tool.proofs.Vocabulary.{is_done_or_outside, is_foreign, is_query, Mode, opens_index, order_part, Outputs, packages, query, Store, Through, Tree}
+use Rattle.rpm_tool.proofs.Vocabulary.{is_done_or_outside, is_foreign, is_query, Mode, order_part, Outputs, packages, query, Store, Through, Tree}
 use Rattle.rpm_tool.proofs.Vocabulary.{Units, unless_starved, unsatisfied_part, verify, CommandProgress, Why}
 use Rattle.rpm_words.specs.declared.ask.Mode.TheVariants as mode
 use Rattle.rpm_effects.specs.declared.answer.Why.TheVariants as why
@@ -12,11 +12,6 @@ use Rattle.rpm_effects.specs.Steps.{idle}
 use Rattle.rpm_tool.proofs.Loading.{went_reads}
 use Rattle.rpm_report.specs.laws.Reporting.{none_listed}
 use Rattle.rpm_effects.specs.laws.Reaching.{not_begun}
-
--- a command that opens the database without its index is no report on requirements
-pub plain_request : (m : Mode) (asked : Bool) → opens_index m asked ≡ false → always_keyed (request_of m) ≡ false
-plain_request mode.Query asked is = refl
-plain_request others asked is = is
 
 -- and neither is a query
 pub query_request : (m : Mode) → is_query m ≡ true → always_keyed (request_of m) ≡ false

@@ -24,7 +24,7 @@ pub use Rattle.rpm_outside.specs.Causes.{HasCauseAt, Rose}
 pub use Rattle.rpm_outside.specs.Changes.{AreDurable}
 pub use Rattle.rpm_outside.specs.Files.{Files, Units}
 pub use Rattle.rpm_outside.specs.Frame.{images}
-pub use Rattle.rpm_outside.specs.Logs.{Closed, log_state, LogState, Malformed, reopened, without_log}
+pub use Rattle.rpm_outside.specs.Logs.{Closed, log_state, LogState, Malformed, reopened_files, without_log}
 pub use Rattle.rpm_outside.specs.SinkFrame.{Writes}
 pub use Rattle.rpm_outside.specs.declared.buffered.Buffered.{Buffered}
 pub use Rattle.rpm_outside.specs.declared.disk.File.TheVariants.{Idx, Pkg}

@@ -1,11 +1,11 @@
 -- Questions by key and the reports on requirements, which open the database with its index and change no package: what
 -- they answer and leave. On it rests `keyed` of the page (Theorem.antt).
-use Rattle.std.specs.Prelude.{◌≡◌, ◌⊎◌, ℕ, ◌+◌, ◌^◌, ◌<◌, ◌≤◌, List, [], map, Bool, true, false, not, ◌==◌, ◌||◌, Ok}
+use Rattle.std.specs.Prelude.{◌≡◌, ◌⊎◌, ℕ, ◌+◌, ◌^◌, ◌<◌, ◌≤◌, List, [], map, true, false, not, ◌==◌, ◌||◌, Ok}
 use Rattle.std.specs.Prelude.{IsTrue}
 use Rattle.std.proofs.Common.{inl, inr, refl}
 use Rattle.rpm_outside.specs.declared.disk.Disk as disk
 use Rattle.rpm_outside.specs.Files.{Units, Files}
-use Rattle.rpm_outside.specs.Logs.{Closed, log_state, reopened}
+use Rattle.rpm_outside.specs.Logs.{Closed, log_state, reopened_files}
 use Rattle.rpm_group.specs.Loads.{IsSound}
 use Rattle.rpm_pkgdb.specs.Store.{Store, blank_store, store}
 use Rattle.rpm_pkgdb.specs.Costs.{opening_cost}
@@ -22,7 +22,6 @@ use Rattle.rpm_effects.specs.declared.answer.Why.TheVariants as why
 use Rattle.rpm_command.specs.declared.reading.Request.{Request}
 use Rattle.rpm_command.specs.declared.reading.Request.TheVariants as request
 use Rattle.rpm_command.specs.Asked.{always_keyed, request_of}
-use Rattle.rpm_effects.specs.Steps.{Bearer}
 use Rattle.rpm_report.specs.Requirements.{IsOfSome}
 use Rattle.rpm_select.specs.Frame.{HasKeptRows as HasIndexRows}
 use Rattle.rpm_db.specs.Frame.{packages_in}
@@ -62,7 +61,7 @@ lawful_usable pkg idx (inr made) =
 -- files represent a usable database: their log is closed, or has a transaction that makes it of them
 pub record IsUsableDatabase (files : Files) : Type 0 where
   pub sound : IsSound (log_state files.log)
-  pub usable : IsUsable (reopened files).pkg (reopened files).idx
+  pub usable : IsUsable (reopened_files files).pkg (reopened_files files).idx
 
 -- ---- the endings
 
@@ -118,7 +117,7 @@ pub record OpenedAnswer {D : Type 0} (d : disk.Ghosts D) (request : Request) (tr
 -- large; up to a step it reads as above
 abbrev pub KeyedAnswer : Tree → List (List ℕ) → AskParts → Files → Why → Outputs → Outputs → ℕ → ℕ → Type 0
 KeyedAnswer tree words a files given old new before now =
-    let r = reopened files in
+    let r = reopened_files files in
     FilesAnswer (λ s. (is_refusal given ≡ false) × (IsUsable r.pkg r.idx → elim given [
       | why.IndexFull needed ↦ Through [] old new
       | others ↦ RequestProgress (request_of a.mode) tree r.pkg s words a (λ for. now ≤ before

@@ -1,5 +1,5 @@
 -- The words of clauses, from one place.
-pub use Rattle.rpm_outside.specs.Logs.{reopened}
+pub use Rattle.rpm_outside.specs.Logs.{reopened_files}
 pub use Rattle.rpm_outside.specs.declared.disk.File.TheVariants.{Pkg}
 pub use Rattle.rpm_pkgdb.specs.Store.{store}
 pub use Rattle.rpm_effects.specs.Endings.{status_of}

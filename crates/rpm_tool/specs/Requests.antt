@@ -17,7 +17,6 @@ use Rattle.rpm_select.specs.Reach.{Reach, Everything}
 use Rattle.rpm_command.specs.declared.reading.Request.{Request}
 use Rattle.rpm_command.specs.declared.reading.Request.TheVariants as request
 use Rattle.rpm_command.specs.Asked.{request_of}
-use Rattle.rpm_effects.specs.Progress.{Through}
 use Rattle.rpm_effects.specs.Steps.{Bearer, Step, bearer_of, idle}
 use Rattle.rpm_effects.specs.Portions.{before_others}
 use Rattle.rpm_commit.specs.Changing.{FilesAnswer}
@@ -30,7 +29,7 @@ use Rattle.rpm_query.specs.Reach.{argument_reach, reaches_by}
 use Rattle.rpm_report.specs.Reports.{verify}
 pub use Rattle.rpm_effects.specs.Progress.{Anywhere, Outputs}
 pub use Rattle.rpm_db.specs.State.{Package, State}
-pub use Rattle.rpm_outside.specs.Logs.{reopened}
+pub use Rattle.rpm_outside.specs.Logs.{reopened_files}
 pub use Rattle.rpm_effects.specs.declared.answer.Why.{Why}
 pub use Rattle.rpm_qfparse.specs.Tree.{Tree}
 use Rattle.rpm_report.specs.Requirements.{unsatisfied_part, order_part, IsListed}
@@ -72,7 +71,7 @@ RequestProgress asked tree file s words a reads_to given old new = elim asked [
 -- a step what the arguments go over
 abbrev pub PlainAnswer : Tree → List (List ℕ) → AskParts → Files → Why → Outputs → Outputs → ℕ → ℕ → Type 0
 PlainAnswer tree words a files given old new before now =
-    let file = (reopened files).pkg in
+    let file = (reopened_files files).pkg in
     FilesAnswer (λ s. RequestProgress (request_of a.mode) tree file s words a (λ for. now ≤ before
     + (opening_cost file + reached_by (asked_reaches false file s words a) (without_index s) for)) given old new)
     files given old new

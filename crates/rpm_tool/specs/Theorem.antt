@@ -31,7 +31,7 @@ use Rattle.rpm_query.specs.PackageFiles.{query_files}
 use Rattle.rpm_query.specs.Queries.{picked_packages, argument_part, query, query_of, AreOfEach, AreQuestions}
 use Rattle.rpm_commit.specs.Changing.{EmptyBy}
 use Rattle.rpm_commit.specs.Tasks.{needs_none, reads_shelf, task_course}
-use Rattle.rpm_tool.specs.Requests.{Anywhere, CommandProgress, Package, PlainAnswer, query_cost, reopened}
+use Rattle.rpm_tool.specs.Requests.{Anywhere, CommandProgress, Package, PlainAnswer, query_cost, reopened_files}
 use Rattle.rpm_tool.specs.Requests.{steps_above, Tree, Why}
 use Rattle.rpm_tool.specs.Keyed.{AreLawfulDatabases, Chosen, IsUsableDatabase, KeepsLog, KeepsPackages, IsLawfulAndSame}
 use Rattle.rpm_tool.specs.Keyed.{IsAtRest, HasClosedIndex, KeyedAnswer, IndexFullIs, BadIs, HasRoom, keyed_cost}
@@ -60,7 +60,7 @@ pub record AnswersWords (words : List (List ℕ)) (given : Why) : Type 0 where
 pub record AnswersPlain {D : Type 0} {d : disk.Ghosts D} (r : Run d) (a : AskParts) (tree : Tree) : Type 0 where
   pub went : PlainAnswer tree r.words a (d.files r.found) r.why r.before r.after (pkg_read d r.found)
       (pkg_read d r.left)
-  pub reads : pkg_read d r.left ≤ pkg_read d r.found + query_cost r.words a (reopened (d.files r.found)).pkg
+  pub reads : pkg_read d r.left ≤ pkg_read d r.found + query_cost r.words a (reopened_files (d.files r.found)).pkg
 
 module _ {D S : Type 0} {d : disk.Ghosts D} {s : shelf.Ghosts S} where
   -- 3. PACKAGE FILES are queried with no call on the disk.
@@ -82,14 +82,14 @@ pub record AnswersKeyed {D : Type 0} {d : disk.Ghosts D} (r : Run d) (a : AskPar
   pub went : KeyedAnswer tree r.words a (d.files r.found) r.why r.before r.after (pkg_read d r.found)
       (pkg_read d r.left)
   pub reads : is_query a.mode ≡ true → IsUsableDatabase (d.files r.found)
-      → pkg_read d r.left ≤ pkg_read d r.found + keyed_cost (reopened (d.files r.found)) r.words a
+      → pkg_read d r.left ≤ pkg_read d r.found + keyed_cost (reopened_files (d.files r.found)) r.words a
   pub kind : is_foreign r.why ≡ false
-  pub index_full : IndexFullIs (reopened (d.files r.found)) r.why
-  pub bad_index : BadIs r.words a (reopened (d.files r.found)) r.why
-  pub complete : IsUsableDatabase (d.files r.found) → HasRoom (reopened (d.files r.found))
+  pub index_full : IndexFullIs (reopened_files (d.files r.found)) r.why
+  pub bad_index : BadIs r.words a (reopened_files (d.files r.found)) r.why
+  pub complete : IsUsableDatabase (d.files r.found) → HasRoom (reopened_files (d.files r.found))
       → is_done_or_outside r.why ≡ true
   pub index : IsUsableDatabase (d.files r.found) → is_done r.why ≡ true → HasClosedIndex (d.files r.left)
-  pub packages : (reopened (d.files r.left)).pkg ≡ (reopened (d.files r.found)).pkg
+  pub packages : (reopened_files (d.files r.left)).pkg ≡ (reopened_files (d.files r.found)).pkg
   pub kept : KeepsLog (d.files r.found) (d.files r.left)
   pub still : IsAtRest (d.files r.found) → d.files r.left ≡ d.files r.found
   pub leaves : CrashLeaves d r.found r.left (KeepsPackages (images d r.found))
@@ -112,7 +112,7 @@ module _ {D S : Type 0} {d : disk.Ghosts D} {s : shelf.Ghosts S} where
         → (reads_shelf task ≡ true → IsTrue s.tells)
         → AnswersChange r task (task_course (s.paths at.shelf) at.moment task)
     pub empty : (task : TaskParts) → asked_task r.words a ≡ Some task → IsTrue d.tells
-        → EmptyBy (needs_none task) (reopened (d.files r.found)) r.why
+        → EmptyBy (needs_none task) (reopened_files (d.files r.found)) r.why
     pub looks : by_key a ≡ false → asked_task r.words a ≡ None → OnlyReadsPackages d r.found r.left
     pub shelf_unread : of_files a ≡ false → option_map_or reads_shelf (asked_task r.words a) false ≡ false → at.shelf_left ≡ at.shelf
 

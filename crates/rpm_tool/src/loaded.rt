@@ -1,7 +1,7 @@
 //! `AnswersPlain` of the theorem: commands on a database as it reads when an open log is gone through.
 
 ghost use Rattle.std.specs.Prelude.{◌≡◌, ◌+◌, ◌≤◌, [], false, IsTrue};
-ghost use Rattle.rpm_tool.specs.Prelude.{always_keyed, request_of, DiskFault, EndHands, is_foreign, OnlyReadsPackages, pkg_read, PlainAnswer, query_cost, reopened, shown_outputs};
+ghost use Rattle.rpm_tool.specs.Prelude.{always_keyed, request_of, DiskFault, EndHands, is_foreign, OnlyReadsPackages, pkg_read, PlainAnswer, query_cost, reopened_files, shown_outputs};
 
 use crate::unindexed::answer_unindexed;
 use rpm_command::Request;
@@ -28,7 +28,7 @@ pub fn answer_loaded<D: Disk, O: Sink + Drop, E: Sink + Drop>(
     ensures went { IsTrue D.tells → PlainAnswer format.now words.now ask.now (D.files disk) result.0
         (shown_outputs O.Sink E.Sink out.old err.old) (shown_outputs O.Sink E.Sink out.new err.new) (pkg_read D.Disk disk)
         (pkg_read D.Disk result.1) }
-    ensures reads { IsTrue D.tells → pkg_read D.Disk result.1 ≤ pkg_read D.Disk disk + query_cost words.now ask.now (reopened (D.files disk)).pkg }
+    ensures reads { IsTrue D.tells → pkg_read D.Disk result.1 ≤ pkg_read D.Disk disk + query_cost words.now ask.now (reopened_files (D.files disk)).pkg }
     ensures done { is_foreign result.0 ≡ false }
     ensures looks { OnlyReadsPackages D.Disk disk result.1 }
     ensures disk { DiskFault D.Disk (result.0 ≡ Why.DiskFault) disk result.1 }

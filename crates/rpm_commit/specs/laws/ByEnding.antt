@@ -1,18 +1,13 @@
 -- What holds of each ending of a kind, by what holds of those that are of it.
-use Rattle.std.proofs.Common.{◌≡◌, ℕ, Bool, true, false, Result, Ok, Err, inl, inr}
+use Rattle.std.proofs.Common.{ℕ, Bool, true, false, Result, Ok, Err, inl, inr}
 use Rattle.rpm_effects.specs.declared.tally.Tally.{Tally}
 use Rattle.rpm_db.specs.State.{State}
 use Rattle.rpm_outside.specs.Files.{Files}
-use Rattle.rpm_effects.specs.Classes.{is_done, IsUncommitted}
+use Rattle.rpm_effects.specs.Classes.{IsUncommitted}
 use Rattle.rpm_effects.specs.Endings.{unless_starved}
 use Rattle.rpm_commit.specs.Working.{done_why, TransactionCount, OpensIn}
 use Rattle.rpm_effects.specs.declared.answer.Why.{Why}
 use Rattle.rpm_effects.specs.declared.answer.Why.TheVariants as why
-
-pub by_done : (P : Why → Type 0) → P why.Done → ((n : ℕ) → P (why.Failed n)) → (w : Why) → is_done w ≡ true → P w
-by_done P done failed why.Done is = done
-by_done P done failed (why.Failed n) is = failed n
-by_done P done failed others is = absurd cc
 
 pub by_uncommitted : (P : Why → Type 0) → ((u : ℕ) → P (why.LogFull u)) → P why.DiskFault → P why.NoMemory → (w : Why)
     → IsUncommitted w → P w

@@ -6,9 +6,9 @@ use Rattle.std.proofs.lemmas.Bool.{and_parts, eqb-true}
 use Rattle.rpm_db.specs.Lawful.{HasRows, IsLawful, is_current_at}
 use Rattle.rpm_db.specs.State.{packages}
 use Rattle.rpm_group.specs.Loads.{IsSound}
-use Rattle.rpm_hindex.specs.State.{is_current, is_in_order, sealed, opened_state}
+use Rattle.rpm_hindex.specs.State.{is_current, is_in_order, sealed_generation, opened_state}
 use Rattle.rpm_outside.specs.Files.{Files, unit_at, Units}
-use Rattle.rpm_outside.specs.Logs.{Closed, log_state, LogState, reopened, without_log, with_state}
+use Rattle.rpm_outside.specs.Logs.{Closed, log_state, LogState, reopened_files, without_log, with_state}
 use Rattle.rpm_pkgdb.specs.Store.{blank_store, Store, store}
 use Rattle.rpm_commit.specs.Changing.{IsDatabaseMade}
 use Rattle.rpm_commit.specs.Lawful.{HasUsableIndex, IsLawfulDatabase, MayBegin}
@@ -34,7 +34,7 @@ may_begin true f may = tt
 may_begin false f may = f may
 
 -- files with a closed log represent themselves
-pub shut_stands : (files : Files) → log_state files.log ≡ Closed → reopened files ≡ without_log files
+pub shut_stands : (files : Files) → log_state files.log ≡ Closed → reopened_files files ≡ without_log files
 shut_stands files closed = ap (λ (l : LogState). with_state l (without_log files)) closed
 
 -- a database that was made has its index, where it has a usable one
@@ -56,8 +56,8 @@ usable_lawful pkg idx made has =
       record {
         rows_are = λ current. index.1;
         no_later =
-            (let same = eqb-true (sealed (unit_at idx 0)) has.value.generation
-            (and_parts (eqb (sealed (unit_at idx 0)) has.value.generation)
+            (let same = eqb-true (sealed_generation (unit_at idx 0)) has.value.generation
+            (and_parts (eqb (sealed_generation (unit_at idx 0)) has.value.generation)
             (is_in_order (opened_state idx)) index.0).0 in
             omega (arith, same));
       },

@@ -5,7 +5,7 @@ use Rattle.rpm_outside.specs.declared.disk.Disk as disk
 use Rattle.rpm_effects.specs.Steps.{Course}
 use Rattle.rpm_outside.specs.Files.{Files}
 use Rattle.rpm_outside.specs.Frame.{images, CrashLeaves}
-use Rattle.rpm_outside.specs.Logs.{Closed, log_state, LogState, Malformed, reopened}
+use Rattle.rpm_outside.specs.Logs.{Closed, log_state, LogState, Malformed, reopened_files}
 use Rattle.rpm_pkgdb.specs.declared.slot.Damage.{Damage}
 use Rattle.rpm_commit.specs.Changing.{after, BadBy, ChangeProgress, HasChanges}
 use Rattle.rpm_commit.specs.laws.Words.{ChangeProgressOnLog, ChangeProgressOn}
@@ -75,10 +75,10 @@ module _ (course : Store → Course) (x : Outputs) where
 
 module _ {D : Type 0} (d : disk.Ghosts D) (words : List (List ℕ)) (task : TaskParts) (course : State → Course)
     (old new : D)
-    (stands : reopened (d.files new) ≡ reopened (d.files old)) (kept : KeepsLog (d.files old) (d.files new))
+    (stands : reopened_files (d.files new) ≡ reopened_files (d.files old)) (kept : KeepsLog (d.files old) (d.files new))
     (run : CrashLeaves d old new (ReopensAsOneOf (images d old))) where
   abbrev r : Files
-  r = reopened (d.files old)
+  r = reopened_files (d.files old)
 
   abbrev Lawful : Type 0
   Lawful = IsLawfulDatabase (d.files old)

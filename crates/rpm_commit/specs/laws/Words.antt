@@ -1,18 +1,14 @@
 -- Parts of what a command that changes packages answers and leaves, as proofs and functions below the page name them.
-use Rattle.std.specs.Prelude.{◌≡◌, ◌⊎◌, ℕ, ◌^◌, ◌<◌, ◌≤◌, max, List, [], ◌∷◌, length, Bool, true, false, Option, Some, unwrap_or}
+use Rattle.std.specs.Prelude.{◌≡◌, ◌⊎◌, ℕ, ◌^◌, ◌<◌, ◌≤◌, List, [], Bool, true, false, Option, Some}
 use Rattle.std.specs.Prelude.{Result, Ok, Err, IfOk, ◌||◌, if◌then◌else◌}
 use Rattle.rpm_outside.specs.Files.{Files, Units}
-use Rattle.rpm_outside.specs.Logs.{LogState, Malformed, log_state, reopened}
-use Rattle.rpm_hindex.specs.Plans.{reach_with}
-use Rattle.rpm_hindex.specs.Sizes.{units_for}
+use Rattle.rpm_outside.specs.Logs.{LogState, Malformed, log_state, reopened_files}
 use Rattle.rpm_pkgdb.specs.declared.slot.Damage.{Damage}
 use Rattle.rpm_pkgdb.specs.Store.{KeepsStore, Store, store}
 use Rattle.rpm_group.specs.Transactions.{longest_log}
 use Rattle.rpm_group.specs.Crashes.{ReopensAsOneOf}
 use Rattle.rpm_db.specs.Changes.{Change, Says}
 use Rattle.rpm_db.specs.Openings.{must_rebuild}
-use Rattle.rpm_db.specs.Reaches.{found_rows}
-use Rattle.rpm_db.specs.Rows.{rows}
 use Rattle.rpm_db.specs.State.{State, packages, state}
 use Rattle.rpm_effects.specs.declared.tally.Halt.{Halt}
 use Rattle.rpm_effects.specs.declared.answer.Why.{Why}
@@ -22,7 +18,6 @@ use Rattle.rpm_effects.specs.Classes.{is_done_or_fault}
 use Rattle.rpm_effects.specs.Progress.{Outputs, Through}
 use Rattle.rpm_effects.specs.Steps.{Course}
 use Rattle.rpm_change.specs.Limits.{limit_of_changes, limit_of_command, next_stores}
-use Rattle.rpm_change.specs.Reaches.{all_added, idx_reach}
 use Rattle.rpm_commit.specs.Changing.{after, ChangeProgress, EmptyIs, HasState}
 use Rattle.rpm_commit.specs.Lawful.{IsLawfulAndSame, IsLawfulDatabase}
 use Rattle.rpm_commit.specs.Limits.{MeetsFirst}
@@ -57,7 +52,7 @@ ChangeProgressOnLog course = LogAnswer (λ s. ChangeProgress (course s))
 -- a course was done of what the files represent
 abbrev pub ChangeProgressOn : (State → Course) → Files → Why → Outputs → Outputs → Type 0
 ChangeProgressOn course files given old new =
-    let r = reopened files in
+    let r = reopened_files files in
     ChangeProgressOnLog (λ s. course (state r.pkg s)) (store r.pkg) (log_state files.log) given old new
 
 -- ---- what is left

@@ -42,7 +42,7 @@ module _ {D : Type 0} (d : disk.Ghosts D) where
   -- an index that can get what it is owed, to be sealed at this generation; where it is sealed there it is owed nothing
   pub record CanFill (at : D) (index : hindex.IndexState) (generation : ℕ) (owed : RowChange) : Type 0 where
     pub order : hindex.is_in_order index ≡ true
-    pub clear : hindex.sealed index.first ≡ generation → owed ≡ no_row_changes
+    pub clear : hindex.sealed_generation index.first ≡ generation → owed ≡ no_row_changes
     pub keeps : IsTrue d.tells → hindex.KeepsIndexValue (d.files at).idx index
     pub durable : IsTrue d.tells → IsDurable Idx (d.files at) (d.left_since at (d.moment at))
 
@@ -89,5 +89,5 @@ module _ {D : Type 0} (d : disk.Ghosts D) where
         → Balances owed (rows from) (rows to) → HasRows to (d.files new).idx
     pub grows : IsTrue d.tells → Gains owed.adds (d.files old).idx (d.files new).idx
     pub reach : IsTrue d.tells → (from to : FinMap nat_cmp Package) → HasRows from (d.files old).idx
-        → Balances owed (rows from) (rows to) → length (d.files new).idx ≤ (if hindex.sealed before.first == generation
+        → Balances owed (rows from) (rows to) → length (d.files new).idx ≤ (if hindex.sealed_generation before.first == generation
         then length (d.files old).idx else max (length (d.files old).idx + live_of owed.adds) (units_for (rows to)))

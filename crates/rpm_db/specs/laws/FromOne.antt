@@ -13,7 +13,7 @@ use Rattle.rpm_pkgdb.specs.Slots.{slot_of, slots_in, slot_with, has_number}
 use Rattle.rpm_pkgdb.specs.Damages.{damage_at, head_reason, own_reason, shared_reason, slot_fault, slot_units}
 use Rattle.rpm_pkgdb.specs.Damages.{table_fault}
 use Rattle.rpm_pkgdb.specs.Store.{Store, blank_store, is_blank, store}
-use Rattle.rpm_pkgdb.specs.laws.Parts.{made_store, made_or_damaged, unless}
+use Rattle.rpm_pkgdb.specs.laws.Parts.{made_store, made_or_damaged, value_or_fault}
 use Rattle.rpm_pkgdb.specs.laws.Runs.{run, table_is_run}
 use Rattle.rpm_db.specs.Database.{Database, Keeps, holds}
 
@@ -45,7 +45,7 @@ none_in_run pages units earlier (u ∷ us) none =
 
 none_made : (file : Units) (s : Store) (pages : ℕ) (fault : Option Damage)
     → table_fault pages (length file) (slot_units pages file) ≡ fault
-    → unless fault (made_store pages file) ≡ Ok s → slot_with 0 s.slots ≡ None
+    → value_or_fault fault (made_store pages file) ≡ Ok s → slot_with 0 s.slots ≡ None
 none_made file s pages (Some d) e is = absurd cc
 none_made file s pages None e is =
     let same : made_store pages file ≡ s = cc in

@@ -1,5 +1,5 @@
 -- A line for which an argument fails, as a part of a command that changes nothing.
-use Rattle.std.proofs.Common.{◌≡◌, ℕ, List, Result, Ok, Err, refl, inl, inr}
+use Rattle.std.proofs.Common.{ℕ, List, Result, Ok, Err, refl, inl, inr}
 use Rattle.std.specs.FinMap as finite
 use Rattle.rpm_outside.specs.declared.sink.Sink as sink
 use Rattle.rpm_outside.specs.declared.buffered.Buffered.{Buffered}
@@ -8,7 +8,6 @@ use Rattle.rpm_effects.specs.declared.tally.Tally.{Tally}
 use Rattle.rpm_effects.specs.declared.tally.Halt.{Halt}
 use Rattle.rpm_effects.specs.declared.tally.Halt.TheVariants as halt
 use Rattle.rpm_effects.specs.Answers.{PartIs}
-use Rattle.rpm_effects.specs.Hands.{Hand, PutsErr}
 use Rattle.rpm_effects.specs.Lines.{Fails, answer_of_line}
 use Rattle.rpm_effects.specs.Portions.{fails}
 use Rattle.rpm_effects.specs.Progress.{Anywhere}
@@ -18,15 +17,6 @@ use Rattle.rpm_effects.specs.Steps.{Bearer, ToErr}
 no_packages : State
 no_packages = record { packages = finite.empty; field = 0 }
 
-line_hand : {E : Type 0} (e : sink.Ghosts E) {x y : Buffered E} (r : Result Tally Halt)
-    → Hand e (r ≡ Err halt.ErrFault) x y → Hand e (answer_of_line r ≡ Err halt.ErrFault) x y
-line_hand e (Ok tally) hand =
-    record { cause = record { later = hand.cause.later; rose = λ is. absurd cc }; goes_on = hand.goes_on }
-line_hand e (Err halt.ErrFault) hand =
-    record { cause = record { later = hand.cause.later; rose = λ is. hand.cause.rose refl }; goes_on = hand.goes_on }
-line_hand e (Err others) hand =
-    record { cause = record { later = hand.cause.later; rose = λ is. absurd cc }; goes_on = hand.goes_on }
-
 module _ {E : Type 0} (e : sink.Ghosts E) {line : List ℕ} {x y : Buffered E} where
   -- one part of the command, whole, cut off or not begun
   pub line_part : (r : Result Tally Halt) → Fails e line x y r → (for : Bearer)
@@ -35,13 +25,3 @@ module _ {E : Type 0} (e : sink.Ghosts E) {line : List ℕ} {x y : Buffered E} w
   line_part (Err halt.ErrFault) f for = λ ot o. record { steps = f.ended for no_packages ot o; fails = tt }
   line_part (Err halt.NoMemory) f for = λ ot o. record { steps = f.ended for no_packages ot o; fails = tt }
   line_part (Err others) f for = absurd (elim f.kinds [ inl is ↦ cc | inr is ↦ cc ])
-
-  -- and nothing but err and want of memory halts it
-  pub line_puts : (r : Result Tally Halt) → Fails e line x y r → PutsErr e (answer_of_line r) x y
-  line_puts (Ok tally) f =
-      record { class = tt; no_read = λ is. cc; no_out = λ is. cc; err = line_hand e (Ok tally) f.err }
-  line_puts (Err halt.ErrFault) f =
-      record { class = refl; no_read = λ is. cc; no_out = λ is. cc; err = line_hand e (Err halt.ErrFault) f.err }
-  line_puts (Err halt.NoMemory) f =
-      record { class = refl; no_read = λ is. cc; no_out = λ is. cc; err = line_hand e (Err halt.NoMemory) f.err }
-  line_puts (Err others) f = absurd (elim f.kinds [ inl is ↦ cc | inr is ↦ cc ])

@@ -1,8 +1,7 @@
 -- Of a part: what it fails for, what is read up to its steps, and a command that was stopped within it.
-use Rattle.std.proofs.Common.{◌≡◌, ℕ, zero, suc, ◌+◌, ◌≤◌, Bool, List, [], ◌∷◌, drop, length, Result, Err, Some, sym}
-use Rattle.std.proofs.Common.{ap, not, ◌∙◌, add-one, arith}
+use Rattle.std.proofs.Common.{◌≡◌, ℕ, zero, suc, ◌+◌, Bool, List, [], ◌∷◌, drop, Result, Err, Some, sym}
+use Rattle.std.proofs.Common.{ap, not, ◌∙◌, add-one}
 use Rattle.std.specs.Prelude.{slice_get}
-use Rattle.std.proofs.Math.Seq.{drop-nil}
 use Rattle.rpm_effects.specs.Progress.{Outputs}
 use Rattle.rpm_effects.specs.Steps.{Bearer, Course, Step, is_out}
 use Rattle.rpm_effects.specs.declared.tally.Halt.{Halt}
@@ -35,8 +34,3 @@ drop_get [] i x is = absurd cc
 drop_get (y ∷ xs) zero x is = (let same : y ≡ x = cc in ap (λ z. z ∷ xs) same)
 drop_get (y ∷ xs) (suc i) x is = drop_get xs i x is ∙ ap (λ (k : ℕ). x ∷ drop k xs) (add-one i)
     ∙ ap (λ (k : ℕ). x ∷ drop k (y ∷ xs)) (sym (add-one (suc i)))
-
-pub none_left : {X : Type 0} (xs : List X) (n : ℕ) → length xs ≤ n → drop n xs ≡ []
-none_left [] n le = drop-nil n
-none_left (x ∷ xs) zero le = absurd (omega (arith, le))
-none_left (x ∷ xs) (suc n) le = none_left xs n (omega (arith, le))

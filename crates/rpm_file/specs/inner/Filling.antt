@@ -1,10 +1,8 @@
 -- Reads that go on until enough bytes have come.
 use Rattle.std.specs.Prelude.{◌≡◌, ℕ, ◌<◌, List, [], ◌++◌, length, take, Option}
-use Rattle.std.proofs.Common.{ap, ◌∙◌, append_assoc}
 use Rattle.rpm_file.specs.declared.fault.ListFault.{ListFault}
 use Rattle.rpm_file.specs.declared.fault.ListFault.TheVariants as fault
 use Rattle.rpm_outside.specs.Browses.{bytes_left, Takes}
-use Rattle.rpm_outside.specs.laws.Browsing.{takes_then}
 
 -- what comes from elsewhere than the bytes
 abbrev pub IsOutsideList : ListFault → Type 0
@@ -27,12 +25,3 @@ pub record Extends (old new : Option (List ℕ)) (before now : List ℕ) : Type 
 pub record Appends (old new : Option (List ℕ)) (before : List ℕ) (size : ℕ) (now : List ℕ) : Type 0 where
   pub extends : Extends old new before now
   pub ended : length now < size → bytes_left new ≡ []
-
-pub extends_then : (a b c : Option (List ℕ)) (xs ys zs : List ℕ) → Extends a b xs ys → Extends b c ys zs
-    → Extends a c xs zs
-extends_then a b c xs ys zs first second = record {
-  more = first.more ++ second.more;
-  behind =
-      second.behind ∙ ap (λ (bs : List ℕ). bs ++ second.more) first.behind ∙ append_assoc xs first.more second.more;
-  front = takes_then a b c first.more second.more first.front second.front;
-}

@@ -1,10 +1,9 @@
 -- What calls on an overlay keep of the disk below.
 use Rattle.std.specs.Prelude.{◌≡◌, ℕ, ◌+◌, ◌≤◌, IsTrue}
 use Rattle.rpm_outside.specs.declared.disk.Disk as disk
-use Rattle.std.proofs.Common.{inl, refl, ◌∙◌, arith}
+use Rattle.std.proofs.Common.{refl, ◌∙◌, arith}
 use Rattle.rpm_outside.specs.declared.disk.File.{File}
 use Rattle.rpm_outside.specs.Files.{Files}
-use Rattle.rpm_outside.specs.Leaves.{CrashLeavesOnly}
 
 -- the disk below has the same contents, images and moment, of each file at most as many bytes were read there as here,
 -- it follows itself, and its count of faults didn't fall
@@ -42,13 +41,3 @@ module _ {D : Type 0} (g : disk.Ghosts D) where
     below = trans a b c first.below second.below;
     later = omega (arith, first.later, second.later);
   }
-
--- what a crash may leave of the disk below, while calls go to the overlay
-pub below_leaves : {D : Type 0} (g : disk.Ghosts D) (old new : D) (ro rn : File → ℕ) (P : Files → Type 0)
-    → IsTrue g.tells → KeepsBelow g old new ro rn
-    → ((image : Files) → g.left_since old (g.moment old) image → P image) → CrashLeavesOnly g old new P
-below_leaves g old new ro rn P told keeps here = record {
-  later = omega (arith, keeps.moment_same);
-  each = λ image left. here image (keeps.images told (g.moment old) image left);
-  before = λ t image le left. inl (keeps.images told t image left);
-}

@@ -208,13 +208,6 @@ IsTooLarge rows (IndexFull needed) = (2 ^ 28 < needed) × (needed ≡ units_for 
 IsTooLarge rows DiskFault = Unit {0}
 IsTooLarge rows NoMemory = Unit {0}
 
--- a fault that says nothing of the index
-abbrev pub IsWithout : PrepareFault → Type 0
-IsWithout (BadIndex unit) = ⊥
-IsWithout (IndexFull needed) = ⊥
-IsWithout DiskFault = Unit {0}
-IsWithout NoMemory = Unit {0}
-
 -- a fault that names a unit names the first fault of this chain
 abbrev pub IsChainFault : Result (List ℕ) ℕ → PrepareFault → Type 0
 IsChainFault said (BadIndex unit) = said ≡ Err unit

@@ -5,9 +5,6 @@ use Rattle.rpm_outside.specs.declared.shelf.Shelf as shelf
 use Rattle.rpm_outside.specs.Shelves.{TakesFront}
 use Rattle.rpm_outside.specs.Browses.{bytes_left, Takes, Browses}
 
-pub takes_none : (old new : Option (List ℕ)) → new ≡ old → Takes old new []
-takes_none old new same = record { front = sym (ap bytes_left same); opened = ap is_some same }
-
 pub takes_then : (a b c : Option (List ℕ)) (xs ys : List ℕ) → Takes a b xs → Takes b c ys → Takes a c (xs ++ ys)
 takes_then a b c xs ys first second = record {
   front = first.front ∙ ap (λ (zs : List ℕ). xs ++ zs) second.front ∙ sym (append_assoc xs ys (bytes_left c));
@@ -34,14 +31,6 @@ reads_one (Some bytes) None taken r = absurd r
 reads_one (Some bytes) (Some rest) taken r = record { takes = record { front = r.0; opened = refl }; ended = r.1 }
 
 module _ {S : Type 0} (s : shelf.Ghosts S) where
-  pub browses_none : (x : S) → Browses s x x
-  browses_none x = record {
-    paths_stay = λ told. refl;
-    taken = λ told. ([], takes_none (s.rest x) (s.rest x) refl);
-    absences_stay = refl;
-    later = omega arith;
-  }
-
   pub browses_then : (a b c : S) → Browses s a b → Browses s b c → Browses s a c
   browses_then a b c first second = record {
     paths_stay = λ told. second.paths_stay told ∙ first.paths_stay told;

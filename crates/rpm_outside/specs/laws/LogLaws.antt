@@ -10,7 +10,7 @@ use Rattle.rpm_outside.specs.laws.Puts.{length-put, put_inside, put_after}
 use Rattle.rpm_outside.specs.laws.PutLaws.{same_units}
 use Rattle.rpm_outside.specs.Logs.{Entry, LogState, Closed, Malformed, Open, is_log_head, is_blank_unit}
 use Rattle.rpm_outside.specs.Logs.{is_commit_record, entry_at, before, heads, log_state, with_entry, with_entries}
-use Rattle.rpm_outside.specs.Logs.{with_state, without_log, reopened}
+use Rattle.rpm_outside.specs.Logs.{with_state, without_log, reopened_files}
 use Rattle.rpm_outside.specs.Words.{word}
 use Rattle.rpm_outside.specs.Entries.{Covers, Within, ends_in, end_in}
 use Rattle.rpm_outside.specs.laws.EntryLaws.{within_same, written_within}
@@ -141,17 +141,17 @@ within_unlogged entries old new not within = record { each = units; no_shorter =
 
 -- ---- what files represent
 
-pub reopened_closed : (files : Files) → log_state files.log ≡ Closed → reopened files ≡ without_log files
+pub reopened_closed : (files : Files) → log_state files.log ≡ Closed → reopened_files files ≡ without_log files
 reopened_closed files is = ap (λ (s : LogState). with_state s (without_log files)) is
 
 pub reopened_open : (files : Files) (entries : List Entry) → log_state files.log ≡ Open entries
-    → reopened files ≡ with_entries entries (without_log files)
+    → reopened_files files ≡ with_entries entries (without_log files)
 reopened_open files entries is = ap (λ (s : LogState). with_state s (without_log files)) is
 
 -- entries that were written in part change nothing
 pub reopened_within : (files image : Files) (entries : List Entry) → log_state files.log ≡ Open entries
-    → Within entries files image → reopened image
-    ≡ reopened files
+    → Within entries files image → reopened_files image
+    ≡ reopened_files files
 reopened_within files image entries is within =
     let not = log_not_log files.log entries is in
     let same : image.log ≡ files.log = within_log entries files image not within in
@@ -205,9 +205,9 @@ first_unit unit log = put_inside 0 (unit ∷ []) log 0 (omega arith)
 pub closing : (unit : List ℕ) (from image : Files) (entries : List Entry) → is_blank_unit unit ≡ true
     → 0 < length from.log → log_state from.log
     ≡ Open entries → with_entries entries (without_log from) ≡ without_log from
-    → TornFile Log 0 (unit ∷ []) from image → reopened image ≡ without_log from
+    → TornFile Log 0 (unit ∷ []) from image → reopened_files image ≡ without_log from
 closing unit from image entries blank some is done torn = ⊎_elim
-    (λ (same : image ≡ from). ap reopened same ∙ reopened_open from entries is ∙ done)
+    (λ (same : image ≡ from). ap reopened_files same ∙ reopened_open from entries is ∙ done)
     (λ (same : image ≡ with_file Log (with_units 0 (unit ∷ []) from.log) from).
     let zeros : is_blank_unit (unit_at image.log 0) ≡ true = ap (λ (f : Files). is_blank_unit (unit_at f.log 0)) same
     ∙ ap is_blank_unit (first_unit unit from.log) ∙ blank in
@@ -247,7 +247,7 @@ pub entries_log : (entries : List Entry) (files : Files) → NotLog entries → 
 entries_log entries files not = within_log entries files (with_entries entries files) not (written_within entries files)
 
 -- what files represent has no log
-pub reopened_log : (files : Files) → (reopened files).log ≡ []
+pub reopened_log : (files : Files) → (reopened_files files).log ≡ []
 reopened_log files = by_state (log_state files.log) refl
   where
     by_state : (state : LogState) → log_state files.log ≡ state → (with_state state (without_log files)).log ≡ []

@@ -94,10 +94,6 @@ pub head_past : (last p : ℕ) (head : List ℕ) → last < p → is_log_head la
 unfolding is_log_head
 head_past last p head past = and_left (nat_le p last) _ (lt-leb p last past)
 
-pub entry_first : (p : ℕ) (units : Units) → (entry_at p units).first ≡ word 1 (unit_at units p)
-unfolding entry_at
-entry_first p units = refl
-
 pub entry_units : (p : ℕ) (units : Units) → (entry_at p units).units
     ≡ take (word 2 (unit_at units p)) (drop (p + 1) units)
 unfolding entry_at

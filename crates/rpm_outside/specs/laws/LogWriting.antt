@@ -11,7 +11,7 @@ use Rattle.rpm_outside.specs.Crash.{TornFile}
 use Rattle.rpm_outside.specs.laws.Puts.{length-put, put_after}
 use Rattle.rpm_outside.specs.laws.PutLaws.{same_units}
 use Rattle.rpm_outside.specs.Logs.{Entry, Closed, Open, is_blank_unit, is_commit_record, is_log_head, entry_at, before}
-use Rattle.rpm_outside.specs.Logs.{heads, log_state, with_entries, without_log, reopened}
+use Rattle.rpm_outside.specs.Logs.{heads, log_state, with_entries, without_log, reopened_files}
 use Rattle.rpm_outside.specs.Words.{word}
 use Rattle.rpm_outside.specs.laws.LogLaws.{reopened_closed, reopened_open, torn_first, first_unit}
 use Rattle.rpm_outside.specs.laws.LogRules.{heads_right, heads_done, commit_record_right}
@@ -187,12 +187,12 @@ module _ (commit_record : List ℕ) (entries : List Entry) (last : ℕ) (log : U
 pub opening : (commit_record : List ℕ) (entries : List Entry) (last : ℕ) (from image : Files)
     → IsCommitRecord commit_record (length entries) last → 0 < length entries → last
     < length from.log → EntriesIn entries 1 (last + 1) from.log → log_state from.log ≡ Closed
-    → TornFile Log 0 (commit_record ∷ []) from image → (reopened image ≡ without_log from)
-    ⊎ (reopened image ≡ with_entries entries (without_log from))
+    → TornFile Log 0 (commit_record ∷ []) from image → (reopened_files image ≡ without_log from)
+    ⊎ (reopened_files image ≡ with_entries entries (without_log from))
 opening commit_record entries last from image g some below is closed torn = ⊎_elim
-    (λ (same : image ≡ from). inl (ap reopened same ∙ reopened_closed from closed))
+    (λ (same : image ≡ from). inl (ap reopened_files same ∙ reopened_closed from closed))
     (λ (same : image ≡ with_file Log (with_units 0 (commit_record ∷ []) from.log) from).
-    inr (ap reopened same ∙ reopened_open (with_file Log (with_units 0 (commit_record ∷ []) from.log) from) entries
+    inr (ap reopened_files same ∙ reopened_open (with_file Log (with_units 0 (commit_record ∷ []) from.log) from) entries
     (opened_is commit_record entries last from.log g some below is)))
     (torn_first commit_record from image (omega (arith, below)) torn)
 

@@ -2,7 +2,7 @@
 use Rattle.std.proofs.Common.{◌≡◌, ℕ, ◌+◌, ◌-◌, ◌≤◌, Bool, List, [], ◌++◌, length, take, drop, sym, ap, ◌∙◌}
 use Rattle.std.proofs.Common.{append_assoc, length-append, arith}
 use Rattle.std.proofs.lemmas.List.{append-nil, take-take, take-append-le}
-use Rattle.std.proofs.Math.Seq.{take-add, take-append-add, take-length}
+use Rattle.std.proofs.Math.Seq.{take-add, take-append-add}
 use Rattle.rpm_outside.specs.Sinks.{GainIs, GainedPart, IsPrefix}
 
 module _ (tells : Bool) where
@@ -30,9 +30,6 @@ module _ (tells : Bool) where
   part_then a b x y (n, le, q) =
       let within : n ≤ length (x ++ y) = omega (arith, length-append x y) in
       (n, within, λ told. rw take-append-le (q told))
-
-  pub part_all : (a b x : List ℕ) → GainIs tells a b x → GainedPart tells a b x
-  part_all a b x q = (length x, omega arith, λ told. rw take-length (q told))
 
 pub begins_refl : (a : List ℕ) → IsPrefix a a
 begins_refl a = ([], sym (append-nil a))

@@ -8,7 +8,7 @@ use Rattle.rpm_pkgdb.specs.Words.{word}
 use Rattle.rpm_pkgdb.specs.Slots.{slot_at, free}
 use Rattle.rpm_pkgdb.specs.Store.{Store}
 use Rattle.rpm_pkgdb.specs.Stays.{SameOutside}
-use Rattle.rpm_pkgdb.specs.Framing.{framed}
+use Rattle.rpm_pkgdb.specs.Framing.{framed_blob}
 use Rattle.rpm_pkgdb.specs.Plans.{IsTarget}
 use Rattle.rpm_pkgdb.specs.laws.Parts.{slot_for}
 use Rattle.rpm_pkgdb.specs.Quiet.{RepresentsStore}
@@ -52,7 +52,7 @@ pub record CanPut (value : Store) (target : Target) (generation : ℕ) (old : Sl
 abbrev pub RepresentsPut : Store → Target → ℕ → List ℕ → Units → Units → Type 0
 RepresentsPut value target generation blob file image =
     RepresentsSlot (with_next (next_field target) value) target.place (slot_for target)
-    (units_of (framed target.number generation blob)) file image
+    (units_of (framed_blob target.number generation blob)) file image
 
 -- an image represents the value from before, it with the next number, or it with the blob
 pub data WhilePut (value : Store) (target : Target) (generation : ℕ) (blob : List ℕ) (file image : Units) : Type 0 where

@@ -2,8 +2,6 @@
 use Rattle.std.specs.Prelude.{◌≡◌, ℕ, ◌^◌, ◌<◌, ◌≤◌, List, length, true, None}
 use Rattle.rpm_outside.specs.Files.{Units, unit_at}
 use Rattle.rpm_pkgdb.specs.declared.slot.Slot.{Slot}
-use Rattle.rpm_pkgdb.specs.declared.slot.OpenFault.{OpenFault}
-use Rattle.rpm_pkgdb.specs.declared.slot.OpenFault.TheVariants.{Damaged, DiskFault, NoMemory}
 use Rattle.rpm_pkgdb.specs.Slots.{slot_at, is_used, end_of, IsPackageNumber}
 use Rattle.rpm_pkgdb.specs.declared.table.Table.{Table}
 use Rattle.rpm_pkgdb.specs.Damages.{own_reason}
@@ -35,9 +33,3 @@ pub record AreRight (slots : List Slot) : Type 0 where
 pub record IsTableIndexed (t : Table) : Type 0 where
   pub places : HasPlaces (find_in t.numbers.pairs) t.slots.items
   pub taken : AreUsedTo t.slots.items t.free_from
-
--- a fault that is none of the file
-abbrev pub IsOutsideTable : OpenFault → Type 0
-IsOutsideTable (Damaged d) = ⊥
-IsOutsideTable DiskFault = Unit {0}
-IsOutsideTable NoMemory = Unit {0}

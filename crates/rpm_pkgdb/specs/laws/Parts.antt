@@ -1,6 +1,6 @@
 -- Parts of the definitions by name, as proofs, and clauses of a crate's own functions, cite them.
-use Rattle.std.specs.Prelude.{ℕ, ◌+◌, ◌*◌, List, [], ◌∷◌, ◌++◌, map, Bool, false, not, ◌&&◌, ◌==◌, nat_lt}
-use Rattle.std.specs.Prelude.{if◌then◌else◌, Option, Some, None, Result, Ok, Err, replicate, unwrap_or}
+use Rattle.std.specs.Prelude.{ℕ, ◌+◌, ◌*◌, List, map, Bool, false, not, ◌&&◌, ◌==◌, nat_lt}
+use Rattle.std.specs.Prelude.{if◌then◌else◌, Option, Some, None, Result, Ok, Err, unwrap_or}
 use Rattle.std.specs.List.{list_any}
 use Rattle.std.specs.Option.{option_map}
 use Rattle.rpm_outside.specs.Files.{Units, unit_at}
@@ -11,7 +11,6 @@ use Rattle.rpm_pkgdb.specs.declared.slot.Reason.{Reason}
 use Rattle.rpm_pkgdb.specs.declared.slot.Slot.{Slot}
 use Rattle.rpm_pkgdb.specs.Blobs.{blob_in, blocks_for, frame_of}
 use Rattle.rpm_pkgdb.specs.Damages.{damage_at, slot_units}
-use Rattle.rpm_pkgdb.specs.Growing.{after_moves}
 use Rattle.rpm_pkgdb.specs.Placing.{count_before, moves_from}
 use Rattle.rpm_pkgdb.specs.Slots.{end_of, free, greatest, has_number, is_used, slots_in}
 use Rattle.rpm_pkgdb.specs.Store.{Store, store_of_pages}
@@ -33,9 +32,9 @@ made_store pages file =
       is_stopped = false;
     }
 
--- a value, unless there is a fault
-abbrev pub unless : {X E : Type 0} → Option E → X → Result X E
-unless fault x = elim fault [ Some e ↦ Err e | None ↦ Ok x ]
+-- the fault where there is one, and otherwise the value
+abbrev pub value_or_fault : {X E : Type 0} → Option E → X → Result X E
+value_or_fault fault x = elim fault [ Some e ↦ Err e | None ↦ Ok x ]
 
 -- the store, unless its head has a fault
 abbrev pub made_or_damaged : Option Reason → Units → Result Store Damage
@@ -85,10 +84,6 @@ moved_slot old to = record old { offset = to }
 -- the count of pages after a growth, where there is one
 abbrev pub pages_after : Option (List Move) → ℕ → ℕ
 pages_after moves pages = elim moves [ None ↦ pages | Some made ↦ pages + 1 ]
-
--- the slots after a growth, with those of the new page
-abbrev pub slots_after : Option (List Move) → List Slot → List Slot
-slots_after moves slots = elim moves [ None ↦ slots | Some made ↦ after_moves slots made ++ replicate 256 free ]
 
 -- whether a used slot's blocks begin before those of all others
 abbrev pub is_first : List Slot → Slot → Bool

@@ -30,10 +30,6 @@ first [] = None
 first (None ∷ xs) = first xs
 first (Some x ∷ xs) = Some x
 
--- a function's values for all numbers below a bound
-abbrev each_below : {X : Type 0} → ℕ → (ℕ → X) → List X
-each_below n f = map f (range_with_len 0 n)
-
 module _ (pages units : ℕ) where
   abbrev pub run : List Slot → Units → Option Damage
   run earlier us = first_fault pages units earlier us
@@ -59,7 +55,7 @@ module _ (pages units : ℕ) where
   abbrev at : List Slot → Units → ℕ → Option Damage
   at earlier us k = slot_fault pages units (earlier ++ slots_in (take k us)) (unit_at us k)
 
-  first_is_run : (earlier : List Slot) (us : Units) → first (each_below (length us) (at earlier us)) ≡ run earlier us
+  first_is_run : (earlier : List Slot) (us : Units) → first (map (at earlier us) (range_with_len 0 (length us))) ≡ run earlier us
   unfolding slots_in
   first_is_run earlier [] = refl
   first_is_run earlier (u ∷ us) =

@@ -39,11 +39,6 @@ bearer-step_by request.Export tree j (n, Good bytes) = refl
 bearer-step_by request.Export tree j (n, Bad) = refl
 bearer-step_by others tree j e = bearer-step_of tree j e
 
--- a package that can't be read has its line either way
-pub step_by-bad : (d : Request) (tree : Tree) (j n : ℕ) → step_by d tree j (n, Bad) ≡ bad_step j n
-step_by-bad request.Export tree j n = refl
-step_by-bad others tree j n = refl
-
 pub number-entry : (p : Picked) → (entry_in p).0 ≡ number_in p
 number-entry (pick.Good number blob) = refl
 number-entry (pick.Bad number) = refl

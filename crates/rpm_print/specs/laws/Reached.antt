@@ -1,16 +1,13 @@
 -- What is read of the numbers that a picker goes over.
-use Rattle.std.proofs.Common.{◌≡◌, ℕ, zero, suc, ◌+◌, ◌-◌, ◌<◌, ◌≤◌, List, [], ◌∷◌, take, refl, sym, subst, arith}
+use Rattle.std.proofs.Common.{◌≡◌, ℕ, zero, suc, ◌+◌, ◌-◌, ◌≤◌, List, [], ◌∷◌, take, refl, sym, subst, arith}
 use Rattle.rpm_db.specs.Database.{Database}
 use Rattle.rpm_db.specs.State.{packages}
 use Rattle.rpm_outside.specs.Files.{Files}
-use Rattle.rpm_select.specs.Picks.{entry_in, number_in}
 use Rattle.rpm_select.specs.Reach.{HasIndexRows, Reach, reach_all, reach_to, Serves}
-use Rattle.rpm_select.specs.declared.picked.Picked.{Picked}
 use Rattle.rpm_select.specs.laws.Costing.{reach_up}
 use Rattle.rpm_print.specs.Reads.{reach_sum}
 use Rattle.rpm_pkgdb.specs.Store.{Store}
 use Rattle.rpm_select.specs.declared.selection.Selection.{Selection}
-use Rattle.rpm_select.specs.declared.picked.Picked.TheVariants as pick
 
 -- a question reads this much for the arguments before the argument j
 abbrev pub reach_before : List Reach → Database → ℕ → ℕ
@@ -29,16 +26,6 @@ pub reach_then : (r : Reach) (db : Database) (low before between : ℕ) {n m now
     → between + reach_to low r db ≤ before + reach_to n r db
     → now ≤ between + (reach_to m r db - reach_to n r db) → now + reach_to low r db ≤ before + reach_to m r db
 reach_then r db low before between {n = n} {m = m} le first second = omega (arith, reach_up r db n m le, first, second)
-
--- up to the package that was picked
-pub entry_reach : (r : Reach) (db : Database) (p : Picked) (low before between : ℕ) {n now : ℕ} → n < number_in p
-    → between + reach_to low r db ≤ before + reach_to n r db
-    → now ≤ between + (reach_to (number_in p) r db - reach_to n r db)
-    → now + reach_to low r db ≤ before + reach_to (entry_in p).0 r db
-entry_reach r db (pick.Good number blob) low before between lt le first =
-    reach_then r db low before between {m = number} (omega (arith, lt)) le first
-entry_reach r db (pick.Bad number) low before between lt le first =
-    reach_then r db low before between {m = number} (omega (arith, lt)) le first
 
 -- what serves the packages that were there serves them where nothing changes
 pub served : (sel : Selection) (s : Store) (p q : Reach) (f f' : Files) → p ≡ q → f ≡ f'

@@ -11,7 +11,7 @@ use Rattle.rpm_db.specs.State.{Package}
 use Rattle.rpm_qfparse.specs.Tree.{Tree}
 use Rattle.rpm_select.specs.Reach.{Everything, Reach}
 use Rattle.rpm_select.specs.Selections.{picks}
-use Rattle.rpm_command.specs.Answers.{is_some_of}
+use Rattle.rpm_select.specs.Picks.{is_some_of}
 use Rattle.rpm_effects.specs.Answers.{PartIs}
 use Rattle.rpm_effects.specs.Classes.{IsOfRead}
 use Rattle.rpm_print.specs.Printed.{packages_part, step_of}

@@ -11,7 +11,7 @@ use Rattle.std.proofs.lemmas.Bool.Decides.{nat_tests}
 use Rattle.rpm_db.specs.laws.Above.{both_true}
 use Rattle.rpm_db.specs.laws.Kept.{kept_above}
 use Rattle.rpm_db.specs.State.{above, Package}
-use Rattle.rpm_command.specs.Answers.{is_some_of}
+use Rattle.rpm_select.specs.Picks.{is_some_of}
 use Rattle.rpm_effects.specs.Portions.{RisesFrom}
 
 module _ {X : Type 0} (p : ℕ × X → Bool) where

@@ -1,5 +1,5 @@
 -- Answers that don't say that the index is malformed.
-use Rattle.std.proofs.Common.{◌≡◌, ℕ, List, Bool, false, Result, Ok, Err, Option, Some, refl}
+use Rattle.std.proofs.Common.{◌≡◌, ℕ, List, Bool, Result, Ok, Err, Option, Some, refl}
 use Rattle.std.specs.Prelude.{slice_get, IfErr}
 use Rattle.rpm_effects.specs.Progress.{Outputs}
 use Rattle.rpm_effects.specs.Steps.{Bearer, Step}
@@ -10,22 +10,16 @@ use Rattle.rpm_select.specs.declared.picked.PickFault.{PickFault}
 use Rattle.rpm_select.specs.declared.selection.Selection.{Selection}
 use Rattle.rpm_effects.specs.Answers.{PartIs, PartProgress, StepIs}
 use Rattle.rpm_effects.specs.Endings.{why_of_halt}
-use Rattle.rpm_effects.specs.Classes.{IsOfRead}
-use Rattle.rpm_query.specs.Queries.{lent, question_of, halt_of_pick}
+use Rattle.rpm_effects.specs.Endings.{halt_of_pick}
+use Rattle.rpm_query.specs.Queries.{lent, question_of}
 use Rattle.rpm_query.specs.Reach.{IsOfChain, IsOfChains}
 use Rattle.rpm_effects.specs.Portions.{Portion}
 use Rattle.rpm_effects.specs.declared.answer.Why.{Why}
 use Rattle.rpm_words.specs.declared.switch.Chosen.{Chosen}
 use Rattle.rpm_select.specs.declared.picked.PickFault.TheVariants as pick
-use Rattle.rpm_select.specs.Picks.{is_of_index}
 use Rattle.rpm_select.specs.Reach.{IsBrokenChain}
 use Rattle.rpm_effects.specs.declared.tally.Halt.TheVariants as halt
 use Rattle.rpm_effects.specs.declared.answer.Why.TheVariants as why
-
-pub stop_unsunk : (fault : PickFault) → is_of_index fault ≡ false → IsOfRead (halt_of_pick fault)
-stop_unsunk (pick.BadIndex unit) is = absurd cc
-stop_unsunk pick.DiskFault is = refl
-stop_unsunk pick.NoMemory is = refl
 
 pub step_unbroken : (step : Step) (r : Result Bool Halt) (old new : Outputs) → StepIs step r old new → (unit : ℕ)
     → r ≡ Err (halt.BadIndex unit) → ⊥
@@ -67,11 +61,6 @@ pub chains_of : (chosen : Chosen) (texts : List (List ℕ)) (idx : Units) (j : �
     → IsOfChain (question_of chosen (lent text)) idx what → IsOfChains chosen texts idx (why_of_halt what)
 chains_of chosen texts idx j text (halt.BadIndex unit) here is = (j, text, here, is)
 chains_of chosen texts idx j text others here is = tt
-
-pub why_unbroken : (what : Halt) → ((unit : ℕ) → what ≡ halt.BadIndex unit → ⊥) → (unit : ℕ)
-    → why_of_halt what ≡ why.BadIndex unit → ⊥
-why_unbroken (halt.BadIndex at) never unit is = never at refl
-why_unbroken others never unit is = cc
 
 pub chains_none : (chosen : Chosen) (texts : List (List ℕ)) (idx : Units) (w : Why)
     → ((unit : ℕ) → w ≡ why.BadIndex unit → ⊥)

@@ -1,8 +1,7 @@
 -- A database that keeps no index.
-use Rattle.std.proofs.Common.{◌≡◌, ◌&&◌, Bool, true, false, is_some, Option, Some, None, refl, sym, ap, ◌∙◌}
+use Rattle.std.proofs.Common.{◌≡◌, ◌&&◌, Bool, true, false, refl, sym, ap, ◌∙◌}
 use Rattle.rpm_outside.specs.Files.{Units}
-use Rattle.rpm_hindex.specs.State as hindex
-use Rattle.rpm_db.specs.Database.{Database, KeepsIndex, KeepsUnits, is_indexed}
+use Rattle.rpm_db.specs.Database.{Database, is_indexed}
 use Rattle.rpm_select.specs.declared.selection.Selection.{Selection}
 use Rattle.rpm_select.specs.declared.selection.Selection.TheVariants.{Number}
 use Rattle.std.specs.Prelude.{[], ◌∷◌}
@@ -13,14 +12,6 @@ use Rattle.rpm_select.specs.Reach.{Everything, HasIndexRows, Reach, These, asks_
 abbrev pub unindexed_reach : Selection → Reach
 unindexed_reach (Number m) = These (m ∷ [])
 unindexed_reach others = Everything
-
-keeps_none : (idx : Units) (o : Option hindex.IndexState) → is_some o ≡ false → KeepsUnits idx o
-keeps_none idx None none = tt
-keeps_none idx (Some state) none = absurd cc
-
--- what is said of its index holds
-pub keeps_no_index : (idx : Units) (db : Database) → is_indexed db ≡ false → KeepsIndex idx db
-keeps_no_index idx db none = keeps_none idx db.index none
 
 and_false : (a : Bool) → (a && false) ≡ false
 and_false true = refl

@@ -1,9 +1,9 @@
-use Rattle.std.proofs.Common.{◌≡◌, ◌+◌, ◌≤◌, true, Err, refl, sym, ap, ◌∙◌, subst, ⊎_elim, arith}
+use Rattle.std.proofs.Common.{◌≡◌, ◌+◌, ◌≤◌, true, Err, sym, ap, ◌∙◌, subst, ⊎_elim, arith}
 use Rattle.std.specs.Prelude.{IsTrue}
 use Rattle.rpm_commit.proofs.Vocabulary.{changes_index, Course, EmptyBy, Files, images, is_anew, is_of_streams, IsLawful, laid_files, LimitsBy, Log}
-use Rattle.rpm_commit.proofs.Vocabulary.{KeepsLog, log_state, needs_none, AnswersChange, overlay_below, overlay_held, overlay_read, overlay_starved, ran, reads_shelf}
-use Rattle.rpm_commit.proofs.Vocabulary.{recovered_kept, reopened, same_kept}
-use Rattle.rpm_commit.proofs.Vocabulary.{ReopensAsOneOf, Rose, shown_outputs, State, task_course, task_parts, TaskParts, without_log, why_of, why_of_load, why_of_recover}
+use Rattle.rpm_commit.proofs.Vocabulary.{KeepsLog, log_state, needs_none, overlay_below, overlay_held, overlay_read, overlay_starved, reads_shelf}
+use Rattle.rpm_commit.proofs.Vocabulary.{recovered_kept, reopened_files}
+use Rattle.rpm_commit.proofs.Vocabulary.{ReopensAsOneOf, Rose, shown_outputs, State, task_course, task_parts, without_log, why_of, why_of_load, why_of_recover}
 use Rattle.rpm_commit.proofs.Vocabulary.{with_file, Work}
 use Rattle.rpm_effects.specs.declared.answer.Why.TheVariants as why
 use Rattle.rpm_commit.specs.laws.Emptied.{transaction_empty, same_empty}
@@ -11,7 +11,7 @@ use Rattle.rpm_commit.proofs.Ends.{below_same, below_run}
 use Rattle.rpm_commit.proofs.Transactions.{transaction_one}
 use Rattle.rpm_commit.specs.laws.Recovered.{leaves_on}
 use Rattle.rpm_commit.specs.laws.Standing.{shut_stands}
-use Rattle.rpm_commit.specs.laws.Unmade.{early_load, early_recover, idle_run, unmade_one}
+use Rattle.rpm_commit.specs.laws.Unmade.{early_load, early_recover, unmade_one}
 use Rattle.rpm_commit.proofs.changing.change_asked.Goals as goal
 
 pub returns-in-Ok-load-clause-answers : goal.returns-in-Ok-load-clause-answers
@@ -52,7 +52,7 @@ returns-in-Ok-load-clause-answers g c = λ words told shelf.
 pub returns-in-Ok-load-clause-empty : goal.returns-in-Ok-load-clause-empty
 returns-in-Ok-load-clause-empty g c = λ told.
     let needs = needs_none (task_parts c.args.task.now) in
-    let r = reopened (g.D.Disk.files c.recover.new.disk) in
+    let r = reopened_files (g.D.Disk.files c.recover.new.disk) in
     let ended = c.change_on-ended.result in
     let given = c.end_transaction.result.0.why in
     (subst (λ (f : Files). EmptyBy needs f given) (c.in-Ok.ensures.stands told)
@@ -122,7 +122,7 @@ returns-in-Err-load-clause-answers g c = λ words told shelf.
     let t = task_parts c.args.task.now in
     rw (c.unchanged.ensures, c.why_of_load.ensures)
     (unmade_one D words t (task_course (g.S.Shelf.paths c.args.shelf.now) c.args.now t) c.args.disk back
-    (ap reopened (looks.untouched told).same ∙ recovered.stands told)
+    (ap reopened_files (looks.untouched told).same ∙ recovered.stands told)
     (subst (λ (f : Files). KeepsLog (D.files c.args.disk) f) (sym (looks.untouched told).same)
     (recovered_kept (D.files c.args.disk) (D.files first) (recovered.kept told)))
     (leaves_on D c.args.disk first back (ReopensAsOneOf (images D c.args.disk)) looks.moment_stays (looks.untouched told).images (recovered.images told))

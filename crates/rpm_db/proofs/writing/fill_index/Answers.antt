@@ -18,7 +18,7 @@ pub returns-then-is_current-clause-filled : goal.returns-then-is_current-clause-
 returns-then-is_current-clause-filled g c =
     let current : hindex.is_current c.args.generation c.args.index.now ≡ true = sym c.is_current.ensures ∙ c.if-is_current.true in
     let at = current_sealed c.args.generation c.args.index.now current in
-    let test : (hindex.sealed c.args.index.now.first == c.args.generation) ≡ true = grind (arith, nat_tests, at) in
+    let test : (hindex.sealed_generation c.args.index.now.first == c.args.generation) ≡ true = grind (arith, nat_tests, at) in
     record {
       current = current;
       kept = λ told. c.requires.ready.keeps told;
@@ -44,7 +44,7 @@ returns-clause-filled g c =
     let run = looked_at D _ _ _ c.in-Ok.ensures.looks in
     let leads = c.in-Ok.ensures.plan.leads in
     let apart = other_sealed n index c.requires.ready.order (sym c.is_current.ensures ∙ c.if-is_current.false) in
-    let test : (hindex.sealed index.first == n) ≡ false = grind (arith, nat_tests, apart) in
+    let test : (hindex.sealed_generation index.first == n) ≡ false = grind (arith, nat_tests, apart) in
     map_ok c.write_rows.result (λ (w : IsApplied D b e index c.write_rows.new.index n work). record {
       current = w.current;
       kept = w.kept;
@@ -103,4 +103,4 @@ returns-clause-crashes g c = λ told lawful from to has changed of.
     let leads = c.in-Ok.ensures.plan.leads in
     let apart = other_sealed c.args.generation c.args.index.now ready.order (sym c.is_current.ensures ∙ c.if-is_current.false) in
     crashes_filled g.D.Disk _ _ _ told lawful (looked_at g.D.Disk _ _ _ c.in-Ok.ensures.looks) c.args.generation c.in-Ok.plan.work to (ready.durable told)
-    (λ at. apart (ap hindex.sealed (ready.keeps told).first ∙ at)) of ((leads from to changed).makes told has) c.write_rows.ensures.writes.changes
+    (λ at. apart (ap hindex.sealed_generation (ready.keeps told).first ∙ at)) of ((leads from to changed).makes told has) c.write_rows.ensures.writes.changes

@@ -61,10 +61,10 @@ returns-in-Ok-None-clause-asks g c =
 pub returns-in-Err-clause-asks : goal.returns-in-Err-clause-asks
 returns-in-Err-clause-asks g c =
     let said = c.in-Err.ensures.asks in
-    rw c.halt_of.ensures (asks_call g.D.Disk (Err c.in-Err.fault) said.lawful (looks_index g.D.Disk said.looks) said.cause)
+    rw c.halt_of_pick.ensures.value (asks_call g.D.Disk (Err c.in-Err.fault) said.lawful (looks_index g.D.Disk said.looks) said.cause)
 
 pub returns-in-Err-next_after-clause-asks : goal.returns-in-Err-next_after-clause-asks
 returns-in-Err-next_after-clause-asks g c =
     let said = c.in-Err-next_after.ensures.asks in
-    rw c.halt_of-in-Err-next_after.ensures (asks_then g.D.Disk c.loop-picked.invariant.asks g.met.D.Disk.follows_trans
+    rw c.halt_of_pick-in-Err-next_after.ensures.value (asks_then g.D.Disk c.loop-picked.invariant.asks g.met.D.Disk.follows_trans
     (asks_call g.D.Disk (Err c.in-Err-next_after.fault) (λ told rows. said.unbroken) (looks_run g.D.Disk said.looks) said.cause))

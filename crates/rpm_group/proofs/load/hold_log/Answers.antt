@@ -1,12 +1,12 @@
 use Rattle.std.proofs.Common.{◌≡◌, sym, ap, subst, ◌∙◌}
 use Rattle.rpm_group.proofs.Vocabulary.{Closed, entries_log, entries_of, Files, heads_behind, IsOpen, laid_files, Log, log_not_log, log_state, LogSays}
-use Rattle.rpm_group.proofs.Vocabulary.{LogState, Reading, reopened, reopened_open, Units, unlogged_entries, with_entries, with_file}
+use Rattle.rpm_group.proofs.Vocabulary.{LogState, Reading, reopened_files, reopened_open, Units, unlogged_entries, with_entries, with_file}
 use Rattle.rpm_group.proofs.Readouts.{on_ok_map}
 use Rattle.rpm_group.proofs.load.hold_log.Goals as goal
 
 -- the entries are held over the two files, and the log stays
 held_reopened : (files new : Files) (behind : LogState) → log_state files.log ≡ behind → IsOpen (log_state files.log)
-    → new ≡ with_entries (entries_of behind) files → new ≡ with_file Log files.log (reopened files)
+    → new ≡ with_entries (entries_of behind) files → new ≡ with_file Log files.log (reopened_files files)
 held_reopened files new behind is opened held =
     let entries = entries_of (log_state files.log) in
     let not = log_not_log files.log entries opened in

@@ -1,6 +1,6 @@
 use Rattle.std.proofs.Common.{◌≡◌, length, refl, sym, ap, subst, ◌∙◌, arith}
 use Rattle.rpm_outside.specs.declared.disk.Disk as disk
-use Rattle.rpm_group.proofs.Vocabulary.{entries_of, Files, heads_behind, IsOpen, leaves_then, leaves_weaker, CrashLeavesOnly, log_not_log, log_state, LogState, NotLog, reopened}
+use Rattle.rpm_group.proofs.Vocabulary.{entries_of, Files, heads_behind, IsOpen, leaves_then, leaves_weaker, CrashLeavesOnly, log_not_log, log_state, LogState, NotLog, reopened_files}
 use Rattle.rpm_group.proofs.Vocabulary.{ReopensAs, Units, without_log, WasWithin, with_entries}
 use Rattle.rpm_group.proofs.Behinds.{entries_behind, none_behind, then_behind}
 use Rattle.rpm_group.proofs.Closes.{mid_log, mid_open, mid_done, mid_stands, written_leaves, open_as}
@@ -15,7 +15,7 @@ module _ {D : Type 0} (g : disk.Ghosts D) (old new : D) (files : Files) (behind 
     (is : log_state files.log ≡ behind) (opened : IsOpen (log_state files.log)) where
   first_leaves : ((image : Files) → g.left_since old (g.moment old) image → image ≡ files)
       → CrashLeavesOnly g old new (WasWithin (entries_of behind) (g.left_since old (g.moment old)))
-      → CrashLeavesOnly g old new (ReopensAs (reopened files))
+      → CrashLeavesOnly g old new (ReopensAs (reopened_files files))
   first_leaves durable run = written_leaves g old new files (entries_of (log_state files.log)) opened durable
       (subst (λ (s : LogState). CrashLeavesOnly g old new (WasWithin (entries_of s) (g.left_since old (g.moment old)))) (sym is) run)
 
@@ -70,7 +70,7 @@ returns-in_err-map_err-clause-images g c = λ told.
     let old = c.args.disk.now in
     let files = D.files old in
     let mid = D.files c.apply_entries.new.disk in
-    both_leave D old c.apply_entries.new.disk c.close_log.new.disk (reopened files) (without_log mid)
+    both_leave D old c.apply_entries.new.disk c.close_log.new.disk (reopened_files files) (without_log mid)
     (mid_stands files mid (entries_of (log_state files.log)) (c.requires.open told)
     (entries_are files mid (heads_behind c.args.commit_record files.log) (c.requires.state told) (c.in-Ok.ensures.written told)))
     (first_leaves D old c.apply_entries.new.disk files (heads_behind c.args.commit_record files.log) (c.requires.state told)
@@ -83,7 +83,7 @@ returns-clause-images g c = λ told.
     let old = c.args.disk.now in
     let files = D.files old in
     let mid = D.files c.apply_entries.new.disk in
-    both_leave D old c.apply_entries.new.disk c.close_log.new.disk (reopened files) (without_log mid)
+    both_leave D old c.apply_entries.new.disk c.close_log.new.disk (reopened_files files) (without_log mid)
     (mid_stands files mid (entries_of (log_state files.log)) (c.requires.open told)
     (entries_are files mid (heads_behind c.args.commit_record files.log) (c.requires.state told) (c.in-Ok.ensures.written told)))
     (first_leaves D old c.apply_entries.new.disk files (heads_behind c.args.commit_record files.log) (c.requires.state told)

@@ -1,7 +1,7 @@
 use Rattle.std.proofs.Common.{◌≡◌, refl, ap, ◌∙◌, subst}
 use Rattle.rpm_outside.specs.declared.disk.Disk as disk
 use Rattle.rpm_group.proofs.Vocabulary.{Closed, Files, IsOpen, IsSound, KeepsBehind, leaves_then, leaves_weaker, CrashLeavesOnly, log_state, LogSays, LogState, Malformed}
-use Rattle.rpm_group.proofs.Vocabulary.{Open, Reading, reopened, ReopensAs, ReopensAsOneOf, then_look}
+use Rattle.rpm_group.proofs.Vocabulary.{Open, Reading, reopened_files, ReopensAs, ReopensAsOneOf, then_look}
 use Rattle.rpm_group.proofs.Behinds.{keeps_none}
 use Rattle.rpm_group.specs.laws.KeptLogs.{same_kept, sound_kept}
 use Rattle.rpm_group.proofs.recovery.recover.Goals as goal
@@ -30,11 +30,11 @@ returns-in-Opened-clause-images g c = λ told.
     (leaves_weaker D old first (D.left_since old (D.moment old)) one_of
     (λ image left. (image, left, record { same = refl; log = same_kept image })) (c.sync_all.ensures.images told))
     (looks.untouched told) looks.moment_stays)
-    (leaves_weaker D mid new (ReopensAs (reopened (D.files mid))) one_of
+    (leaves_weaker D mid new (ReopensAs (reopened_files (D.files mid))) one_of
     (λ image is. (
       D.files old,
       g.met.D.Disk.as_read old told,
-      record { same = is.same ∙ ap reopened same; log = sound_kept (D.files old) image was is.sound },
+      record { same = is.same ∙ ap reopened_files same; log = sound_kept (D.files old) image was is.sound },
     ))
     (c.finish.ensures.images told))
 

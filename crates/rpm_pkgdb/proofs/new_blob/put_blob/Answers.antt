@@ -1,5 +1,5 @@
 use Rattle.std.proofs.Common.{◌≡◌, ℕ, Bool, if◌then◌else◌, None, Some, IsTrue, IfSome, ◌<◌, ◌≤◌, ◌+◌, [], ◌∷◌, List, length, refl, sym, ap, ◌∙◌, subst, arith}
-use Rattle.rpm_pkgdb.proofs.Vocabulary.{After, Anything, blank, blocks_for, end_of, framed, IsSlotUnit, KeepsStore, next_field, next_unit, Slot, slot_for, Target}
+use Rattle.rpm_pkgdb.proofs.Vocabulary.{After, Anything, blank, blocks_for, end_of, framed_blob, IsSlotUnit, KeepsStore, next_field, next_unit, Slot, slot_for, Target}
 use Rattle.rpm_pkgdb.proofs.Vocabulary.{Torn, unit_at, Units, units_of, WhilePut}
 use Rattle.rpm_pkgdb.proofs.ClearLaws.{put_elsewhere}
 use Rattle.rpm_pkgdb.proofs.FramingLaws.{count-framed}
@@ -85,7 +85,7 @@ returns-clause-put g c =
     let gen = c.args.generation in
     let old = c.args.old in
     let blob = c.args.blob.now in
-    let us = units_of (framed target.number gen blob) in
+    let us = units_of (framed_blob target.number gen blob) in
     let unit = c.slot_unit.result in
     let is = slot_is unit target c.slot.result c.slot.ensures c.slot_unit.ensures in
     let F0 = (D.files c.args.disk.now).pkg in

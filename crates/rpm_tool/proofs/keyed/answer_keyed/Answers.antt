@@ -1,5 +1,5 @@
 use Rattle.std.proofs.Common.{[], ap, ◌∙◌, arith}
-use Rattle.rpm_tool.proofs.Vocabulary.{Files, inner, is_foreign, is_of_streams, log_state, pkg_read, reopened, shown_outputs, store, Through}
+use Rattle.rpm_tool.proofs.Vocabulary.{Files, inner, is_foreign, is_of_streams, log_state, pkg_read, reopened_files, shown_outputs, store, Through}
 use Rattle.rpm_tool.proofs.Faults.{cause_then, hands_none}
 use Rattle.rpm_tool.proofs.OpeningLaws.{leaves_peeks, runs_peeks}
 use Rattle.rpm_effects.specs.laws.Reaching.{through_none}
@@ -79,7 +79,7 @@ returns-in-Err-clause-keyed g c = λ told.
     let files = g.D.Disk.files c.args.disk in
     let first = c.in-Err.ensures in
     let fault = c.in-Err.fault in
-    let r = reopened files in
+    let r = reopened_files files in
     let now = pkg_read g.D.Disk c.recover.new.disk in
     let start = pkg_read g.D.Disk c.args.disk in
     let x = shown_outputs g.O.Sink g.E.Sink c.args.out.now c.args.err.now in

@@ -1,6 +1,6 @@
 use Rattle.std.proofs.Common.{◌≡◌, ◌+◌, ◌≤◌, true, refl, sym, ap, ◌∙◌, subst, arith}
 use Rattle.rpm_tool.proofs.Vocabulary.{request_of, PlainProgress, Files, Idx, inner, is_of_streams, laid_files, log_state, StoreAnswer, Pkg, pkg_read, query_cost, read_to}
-use Rattle.rpm_tool.proofs.Vocabulary.{reopened, shown_outputs, store, Units, unless_starved, Why}
+use Rattle.rpm_tool.proofs.Vocabulary.{reopened_files, shown_outputs, store, Units, unless_starved, Why}
 use Rattle.rpm_effects.specs.declared.answer.Why.TheVariants as why
 use Rattle.rpm_commit.specs.laws.Starved.{starved_streams}
 use Rattle.rpm_tool.proofs.Requests.{does_reads, does_starved}
@@ -18,7 +18,7 @@ returns-in-Ok-clause-went g c = λ told.
     let a = c.args.ask.now in
     let asked = request_of a.mode in
     let files = g.D.Disk.files c.args.disk in
-    let file = (reopened files).pkg in
+    let file = (reopened_files files).pkg in
     let ov = c.in-Ok.overlay in
     let end = c.answer_unindexed-ended.new.disk in
     let ended = c.answer_unindexed-ended.result in
@@ -45,7 +45,7 @@ returns-in-Ok-clause-went g c = λ told.
 
 pub returns-in-Ok-clause-reads : goal.returns-in-Ok-clause-reads
 returns-in-Ok-clause-reads g c = λ told.
-    let file = (reopened (g.D.Disk.files c.args.disk)).pkg in
+    let file = (reopened_files (g.D.Disk.files c.args.disk)).pkg in
     let ov = c.in-Ok.overlay in
     let end = c.answer_unindexed-ended.new.disk in
     let start = g.D.Disk.bytes_read c.args.disk Pkg in
@@ -117,14 +117,14 @@ returns-in-Err-clause-went g c = λ told.
     let files = g.D.Disk.files c.args.disk in
     let refused = c.in-Err.refused in
     let x = shown_outputs g.O.Sink g.E.Sink c.args.out.now c.args.err.now in
-    rw c.why_of_load.ensures (unloaded c.args.format.now c.args.words.now c.args.ask.now (reopened files).pkg (pkg_read g.D.Disk c.args.disk)
+    rw c.why_of_load.ensures (unloaded c.args.format.now c.args.words.now c.args.ask.now (reopened_files files).pkg (pkg_read g.D.Disk c.args.disk)
     (pkg_read g.D.Disk refused.disk) x (through_none {ot = g.O.Sink.tells} {et = g.E.Sink.tells} (g.O.Sink.taken (inner c.args.out.now))
     (g.E.Sink.taken (inner c.args.err.now))) (log_state files.log) refused.why (c.in-Err.ensures.says told))
 
 pub returns-in-Err-clause-reads : goal.returns-in-Err-clause-reads
 returns-in-Err-clause-reads g c = λ told.
     le_more (pkg_read g.D.Disk c.in-Err.refused.disk) (pkg_read g.D.Disk c.args.disk)
-    (query_cost c.args.words.now c.args.ask.now (reopened (g.D.Disk.files c.args.disk)).pkg) c.in-Err.ensures.looks.reads.pkg
+    (query_cost c.args.words.now c.args.ask.now (reopened_files (g.D.Disk.files c.args.disk)).pkg) c.in-Err.ensures.looks.reads.pkg
 
 pub returns-in-Err-clause-done : goal.returns-in-Err-clause-done
 returns-in-Err-clause-done g c = rw c.why_of_load.ensures (load_own c.in-Err.refused.why)

@@ -43,7 +43,7 @@ returns-in-Ok-clause-has_rows g c =
       reach = λ told o.
           subst (λ (i : Option hindex.IndexState). length new.idx ≤ (if sealed_in i == st.generation then length old.idx
           else max (length old.idx + live_of owed.adds) (units_for (rows (packages old.pkg st))))) (sym c.in-Some.is)
-          (subst (λ (n : ℕ). length new.idx ≤ (if hindex.sealed c.in-Some.index.first == n then length old.idx
+          (subst (λ (n : ℕ). length new.idx ≤ (if hindex.sealed_generation c.in-Some.index.first == n then length old.idx
           else max (length old.idx + live_of owed.adds) (units_for (rows (packages old.pkg st))))) c.generation-generation.ensures.value
           (e.filled.reach told o.from (packages old.pkg st) o.has o.balances));
     })

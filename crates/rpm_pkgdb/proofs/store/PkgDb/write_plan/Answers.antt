@@ -1,6 +1,6 @@
 use Rattle.std.proofs.Common.{◌≡◌, true, inl, ℕ, ◌≤◌, ◌+◌, length, max, Bool, if◌then◌else◌, Option, Some, None, IfSome, IsTrue, sym, ap, ◌∙◌, subst, arith}
 use Rattle.std.specs.FinMap as finite
-use Rattle.rpm_pkgdb.proofs.Vocabulary.{BlobMap, blobs, blocks_for, framed, IsBlobPut, IsKept, KeepsBlank, moves_of, next_field, next_unit, PutsTo}
+use Rattle.rpm_pkgdb.proofs.Vocabulary.{BlobMap, blobs, blocks_for, framed_blob, IsBlobPut, IsKept, KeepsBlank, moves_of, next_field, next_unit, PutsTo}
 use Rattle.rpm_pkgdb.proofs.Vocabulary.{RepresentsBlobs, StaysBut, Store, store_end, unit_at, Units, units_of, WhilePut, with_plan}
 use Rattle.rpm_pkgdb.proofs.Changing.{map_ok, crashes_weaker, writes_then, crashes_next}
 use Rattle.rpm_pkgdb.proofs.FramingLaws.{count-framed}
@@ -44,7 +44,7 @@ returns-in_err-grow-clause-crashes g c = λ told quiet.
     let D = g.D.Disk in
     let v = c.args.self.now in
     let n = c.args.plan.now.target.number in
-    let these : Option Units = Some (units_of (framed n v.generation c.args.blob.now)) in
+    let these : Option Units = Some (units_of (framed_blob n v.generation c.args.blob.now)) in
     let d = c.args.disk.now in
     let F0 = (D.files d).pkg in
     let still = c.grow.ensures.images told quiet in
@@ -73,7 +73,7 @@ returns-clause-crashes g c = λ told quiet.
     let F0 = (D.files a).pkg in
     let F1 = (D.files b).pkg in
     let mid = after v plan is c.requires.made in
-    let these : Option Units = Some (units_of (framed n v.generation blob)) in
+    let these : Option Units = Some (units_of (framed_blob n v.generation blob)) in
     let page = c.in_ok-grow.ensures.grown told in
     let still = c.grow.ensures.images told quiet in
     let second = c.put_blob.ensures.images told mid can (page.quiet quiet) in
@@ -90,7 +90,7 @@ returns-clause-crashes g c = λ told quiet.
           crashes_next g.D.Disk told B c.grow.ensures.writes
           (crashes_weaker D (RepresentsBlobs v F0) B a b (still_but n these v F0) still)
           (crashes_weaker D (WhilePut mid plan.target gen blob F1) B b e
-          (λ image w. subst (λ (g : ℕ). StaysBut n (Some (units_of (framed n g blob))) v F0 image) gen_is
+          (λ image w. subst (λ (g : ℕ). StaysBut n (Some (units_of (framed_blob n g blob))) v F0 image) gen_is
           (puts_but v F0 mid plan.target gen old blob can F1 page.kept page.others image w)) second);
     }
 
@@ -133,8 +133,9 @@ returns-clause-put g c =
           ∙ ap (λ (B : BlobMap). finite.insert B target.number (Some blob)) page.blobs_are);
       others = λ m differs. put_stay mid target gen old blob can F1 F2 page.kept stands m differs ∙ page.others m;
       framed_in =
-          whole_part F2 target.start (blocks_for (length blob)) (units_of (framed target.number gen blob)) (count-framed target.number gen blob) stands.holds
-          ∙ ap (λ (n : ℕ). units_of (framed target.number n blob)) gen_is;
+          whole_part F2 target.start (blocks_for (length blob)) (units_of (framed_blob target.number gen blob))
+          (count-framed target.number gen blob) stands.holds
+          ∙ ap (λ (n : ℕ). units_of (framed_blob target.number n blob)) gen_is;
       next = λ is_new. subst (λ (o : Option ℕ). IfSome o (λ n. unit_at F2 1 ≡ next_unit n)) (is_next is_new) (p.next (new is_new));
       stays = λ not_new.
           p.stays (start_far _ v own some plan is old new held F0 keeps limit short within)
