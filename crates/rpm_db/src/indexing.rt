@@ -46,26 +46,26 @@ pub fn seal_index<D: Disk>(
     index.seal(disk, generation)
 }
 
-/// Writes the index of these rows from scratch, and seals it.
+/// Writes the index of these rows from scratch, and seals it. The rows are freed as their records are made.
 fn write_index<D: Disk>(
     alloc: Global,
     disk: &mut D,
     index: &mut Hindex,
-    rows: &Rows,
+    rows: Rows,
     generation: u32,
 ) -> Result<(), RewriteFault>
     requires keeps { IsTrue D.tells → hindex.KeepsIndexValue (D.files disk.old).idx index.old }
     requires durable { IsTrue D.tells → IsDurable D.Disk Pkg disk.old }
-    requires rows { IsTrue D.tells → IsOfRows generation rows.now (D.files disk.old).pkg }
-    ensures full { FullIs (units_for rows.now) result }
+    requires rows { IsTrue D.tells → IsOfRows generation rows (D.files disk.old).pkg }
+    ensures full { FullIs (units_for rows) result }
     ensures sealed { OnOk result (IsSealedHere D.Disk disk.new generation index.new) }
     ensures refused { IfErr result (λ e. IsRebuildRefused e → (index.new ≡ index.old) × (disk.new ≡ disk.old)) }
-    ensures grows { OnOk result (index.new.units ≤ max index.old.units (units_for rows.now)) }
+    ensures grows { OnOk result (index.new.units ≤ max index.old.units (units_for rows)) }
     ensures unread { (f : File) → D.bytes_read disk.new f ≤ D.bytes_read disk.old f }
     ensures runs { Runs D.Disk Remade disk.old disk.new }
     ensures cause { DiskFault D.Disk (result ≡ Err RewriteFault.DiskFault) disk.old disk.new }
 {
-    index.rewrite(alloc, disk, rows)?;
+    index.rewrite_owned(alloc, disk, rows)?;
     match seal_index(disk, index, generation) {
         Ok(()) => Ok(()),
         Err(IndexDiskFault) => Err(RewriteFault::DiskFault),
@@ -96,7 +96,7 @@ pub fn make_index<D: Disk>(
     ensures cause { DiskFault D.Disk (result ≡ Err RewriteFault.DiskFault) disk.old disk.new }
 {
     let rows = rows_of(alloc, disk, store)?;
-    write_index(alloc, disk, index, &rows, store.generation())
+    write_index(alloc, disk, index, rows, store.generation())
 }
 
 /// The index of a store, which is made from the packages where it isn't current.

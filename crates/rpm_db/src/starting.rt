@@ -28,7 +28,7 @@ fn empty_index<D: Disk>(alloc: Global, disk: &mut D) -> Result<Hindex, RewriteFa
         Err(IndexDiskFault) => return Err(RewriteFault::DiskFault),
     };
     let rows = Rows::new(alloc);
-    match index.rewrite(alloc, disk, &rows) {
+    match index.rewrite_owned(alloc, disk, rows) {
         Ok(()) => Ok(index),
         Err(fault) => Err(fault),
     }

@@ -3,6 +3,7 @@ pub mod Runs
 pub mod AsRead
 pub mod Chains
 pub mod Packing
+pub mod Pieces
 pub mod Counts
 pub mod Collects
 pub mod Orders
@@ -19,6 +20,7 @@ pub mod Fewer
 pub mod UnitWords
 pub mod Seals
 pub mod Made
+pub mod Ends
 pub mod Adding
 pub mod Adds
 pub mod Padding

@@ -5,7 +5,7 @@ use Rattle.std.proofs.lemmas.Grind.{reverse_onto}
 use Rattle.std.proofs.lemmas.List.Sorted.{sum_by-IsPermutation, IsPermutation-reverse}
 use Rattle.std.proofs.lemmas.List.Sums.{sum_by_push}
 use Rattle.std.proofs.lemmas.Bool.{cases_lt}
-use Rattle.rpm_hindex.proofs.Vocabulary.{AreKeysPacked, live_of, no_head, no_row, record_units, Row, row_in, row_nth, RowHead, packed_rows}
+use Rattle.rpm_hindex.proofs.Vocabulary.{AreKeysPacked, live_of, no_head, no_row, record_units, Row, row_in, row_nth, PackedHead, packed_rows}
 
 pub packed_none : AreKeysPacked [] [] 0
 unfolding live_of
@@ -19,21 +19,21 @@ packed_none = record {
 }
 
 -- bytes after all keys change no row
-same_row_in : (keys key : List ℕ) (h : RowHead) → h.start + h.length ≤ length keys → row_in (keys ++ key) h ≡ row_in keys h
+same_row_in : (keys key : List ℕ) (h : PackedHead) → h.start + h.length ≤ length keys → row_in (keys ++ key) h ≡ row_in keys h
 same_row_in keys key h le =
     let is : take h.length (drop h.start (keys ++ key)) ≡ take h.length (drop h.start keys) =
     ap (λ (bs : List ℕ). take h.length bs) (drop-append-le h.start keys key (omega arith)) ∙ take-append-le h.length (drop h.start keys) key
     (omega (arith, length-drop h.start keys)) in
     ap (λ (bs : List ℕ). let r : Row = record { kind = h.kind; key = bs; number = h.number; place = h.place } in r) is
 
-same_rows_in : (keys key : List ℕ) (hs : List RowHead) → ((i : ℕ) → i < length hs → (get_or hs i no_head).start + (get_or hs i no_head).length
+same_rows_in : (keys key : List ℕ) (hs : List PackedHead) → ((i : ℕ) → i < length hs → (get_or hs i no_head).start + (get_or hs i no_head).length
     ≤ length keys) → packed_rows (keys ++ key) hs ≡ packed_rows keys hs
 same_rows_in keys key [] within = refl
 same_rows_in keys key (h ∷ hs) within =
     ap (λ (r : Row). r ∷ packed_rows (keys ++ key) hs) (same_row_in keys key h (within 0 (omega arith)))
     ∙ ap (λ (rs : List Row). row_in keys h ∷ rs) (same_rows_in keys key hs (λ i lt. within (suc i) (omega arith)))
 
-module _ (heads : List RowHead) (keys key : List ℕ) (live : ℕ) (h : RowHead) (packed : AreKeysPacked heads keys live) (start : h.start ≡ length keys)
+module _ (heads : List PackedHead) (keys key : List ℕ) (live : ℕ) (h : PackedHead) (packed : AreKeysPacked heads keys live) (start : h.start ≡ length keys)
     (long : h.length ≡ length key) where
   abbrev row : Row
   row = record { kind = h.kind; key = key; number = h.number; place = h.place }
@@ -50,7 +50,7 @@ module _ (heads : List RowHead) (keys key : List ℕ) (live : ℕ) (h : RowHead)
       ∙ ap (λ (rs : List Row). rs ++ row_in (keys ++ key) h ∷ []) (same_rows_in keys key heads packed.within)
       ∙ ap (λ (r : Row). packed_rows keys heads ++ r ∷ []) new_row
 
-  each_more : (P : RowHead → Type 0) → ((i : ℕ) → i < length heads → P (get_or heads i no_head)) → P h → (i : ℕ) → i < length (heads ++ h ∷ [])
+  each_more : (P : PackedHead → Type 0) → ((i : ℕ) → i < length heads → P (get_or heads i no_head)) → P h → (i : ℕ) → i < length (heads ++ h ∷ [])
       → P (get_or (heads ++ h ∷ []) i no_head)
   each_more P old new i lt = elim (cases_lt i (length heads)) [
     | inl below ↦ subst P (sym (get_or_append_left heads (h ∷ []) no_head i below)) (old i below)
@@ -61,13 +61,13 @@ module _ (heads : List RowHead) (keys key : List ℕ) (live : ℕ) (h : RowHead)
       (live + record_units h.length)
   unfolding live_of
   packed_more kind short most = record {
-    within = each_more (λ (g : RowHead). g.start + g.length ≤ length (keys ++ key)) (λ i lt. omega (
+    within = each_more (λ (g : PackedHead). g.start + g.length ≤ length (keys ++ key)) (λ i lt. omega (
       arith,
       length-append keys key,
       packed.within i lt,
     )) (omega (arith, length-append keys key));
-    short = each_more (λ (g : RowHead). g.length < 2 ^ 28) packed.short short;
-    kinds = each_more (λ (g : RowHead). g.kind < 16) packed.kinds kind;
+    short = each_more (λ (g : PackedHead). g.length < 2 ^ 28) packed.short short;
+    kinds = each_more (λ (g : PackedHead). g.kind < 16) packed.kinds kind;
     units =
         let n : live ≡ live_of (packed_rows keys heads) = packed.units in
         let m = sum_by_push (λ (r : Row). record_units (length r.key)) (packed_rows keys heads) row in
@@ -79,7 +79,7 @@ module _ (heads : List RowHead) (keys key : List ℕ) (live : ℕ) (h : RowHead)
 
 -- ---- the rows turned round
 
-pub rows_reversed : (keys : List ℕ) (heads : List RowHead) → packed_rows keys (reverse heads) ≡ reverse (packed_rows keys heads)
+pub rows_reversed : (keys : List ℕ) (heads : List PackedHead) → packed_rows keys (reverse heads) ≡ reverse (packed_rows keys heads)
 rows_reversed keys [] = refl
 rows_reversed keys (h ∷ hs) =
     ap (packed_rows keys) (reverse_onto hs h [])
@@ -87,18 +87,18 @@ rows_reversed keys (h ∷ hs) =
     ∙ ap (λ (rs : List Row). rs ++ row_in keys h ∷ []) (rows_reversed keys hs)
     ∙ sym (reverse_onto (packed_rows keys hs) (row_in keys h) [])
 
-each_reversed : (P : RowHead → Type 0) (heads : List RowHead) → ((i : ℕ) → i < length heads → P (get_or heads i no_head)) → (i : ℕ)
+each_reversed : (P : PackedHead → Type 0) (heads : List PackedHead) → ((i : ℕ) → i < length heads → P (get_or heads i no_head)) → (i : ℕ)
     → i < length (reverse heads) → P (get_or (reverse heads) i no_head)
 each_reversed P heads old i lt =
     let below : i < length heads = omega (arith, length-reverse heads, lt) in
     subst P (sym (get_or-reverse heads i no_head below)) (old (length heads - 1 - i) (omega (arith, below)))
 
-pub packed_reversed : (heads : List RowHead) (keys : List ℕ) (live : ℕ) → AreKeysPacked heads keys live → AreKeysPacked (reverse heads) keys live
+pub packed_reversed : (heads : List PackedHead) (keys : List ℕ) (live : ℕ) → AreKeysPacked heads keys live → AreKeysPacked (reverse heads) keys live
 unfolding live_of
 packed_reversed heads keys live packed = record {
-  within = each_reversed (λ (g : RowHead). g.start + g.length ≤ length keys) heads packed.within;
-  short = each_reversed (λ (g : RowHead). g.length < 2 ^ 28) heads packed.short;
-  kinds = each_reversed (λ (g : RowHead). g.kind < 16) heads packed.kinds;
+  within = each_reversed (λ (g : PackedHead). g.start + g.length ≤ length keys) heads packed.within;
+  short = each_reversed (λ (g : PackedHead). g.length < 2 ^ 28) heads packed.short;
+  kinds = each_reversed (λ (g : PackedHead). g.kind < 16) heads packed.kinds;
   units =
       let rows = packed_rows keys heads in
       let same = sum_by-IsPermutation (λ (r : Row). record_units (length r.key)) rows (reverse rows) (IsPermutation-reverse rows) in
@@ -110,25 +110,25 @@ packed_reversed heads keys live packed = record {
 -- ---- one row
 
 -- what a head says of its row
-pub record IsHeadOf (keys : List ℕ) (row : Row) (h : RowHead) : Type 0 where
+pub record IsHeadOf (keys : List ℕ) (row : Row) (h : PackedHead) : Type 0 where
   pub row_is : row ≡ row_in keys h
   pub within : h.start + h.length ≤ length keys
   pub long : length row.key ≡ h.length
   pub short : h.length < 2 ^ 28
   pub kinds : h.kind < 16
 
-pub head_is : (heads : List RowHead) (keys : List ℕ) (live : ℕ) → AreKeysPacked heads keys live → (rows : List Row) → packed_rows keys heads ≡ rows
-    → (i : ℕ) → i < length rows → (h : RowHead) → h ≡ get_or heads i h → IsHeadOf keys (row_nth rows i) h
+pub head_is : (heads : List PackedHead) (keys : List ℕ) (live : ℕ) → AreKeysPacked heads keys live → (rows : List Row) → packed_rows keys heads ≡ rows
+    → (i : ℕ) → i < length rows → (h : PackedHead) → h ≡ get_or heads i h → IsHeadOf keys (row_nth rows i) h
 head_is heads keys live packed rows view i lt h is =
     let below : i < length heads = omega (arith, ap length view, length-map heads (row_in keys), lt) in
     let same : h ≡ get_or heads i no_head = is ∙ get_or_default heads i h no_head below in
     let row : row_nth rows i ≡ row_in keys h =
     ap (λ (rs : List Row). row_nth rs i) (sym view) ∙ get_or-map (row_in keys) heads i no_head no_row below ∙ ap (row_in keys) (sym same) in
-    let within : h.start + h.length ≤ length keys = subst (λ (g : RowHead). g.start + g.length ≤ length keys) (sym same) (packed.within i below) in
+    let within : h.start + h.length ≤ length keys = subst (λ (g : PackedHead). g.start + g.length ≤ length keys) (sym same) (packed.within i below) in
     record {
       row_is = row;
       within = within;
       long = ap (λ (r : Row). length r.key) row ∙ omega (arith, within, length-take h.length (drop h.start keys), length-drop h.start keys);
-      short = subst (λ (g : RowHead). g.length < 2 ^ 28) (sym same) (packed.short i below);
-      kinds = subst (λ (g : RowHead). g.kind < 16) (sym same) (packed.kinds i below);
+      short = subst (λ (g : PackedHead). g.length < 2 ^ 28) (sym same) (packed.short i below);
+      kinds = subst (λ (g : PackedHead). g.kind < 16) (sym same) (packed.kinds i below);
     }

@@ -3,7 +3,7 @@ pub use Rattle.rpm_hindex.specs.Answers.{AddsHit, AsOften, ChainCosts, FindIs, h
 pub use Rattle.rpm_hindex.specs.Answers.{row_of_hit, same_hit}
 unfoldable pub use Rattle.rpm_hindex.specs.Answers.{times_hit}
 pub use Rattle.rpm_hindex.specs.Costs.{chain_bytes, chains_bytes}
-pub use Rattle.rpm_hindex.specs.Images.{IsSealed, IsDurableAs, SameSeal, SealedOrSame, VoidOrSame}
+pub use Rattle.rpm_hindex.specs.Images.{IsSealed, SameSeal, SealedOrSame, VoidOrSame}
 pub use Rattle.rpm_hindex.specs.Index.{bucket_of, follow, Index, index_in, is_link, key_at, length_at}
 pub use Rattle.rpm_hindex.specs.laws.Parts.{behind_place, bucket_unit, is_placed, next_at, places_in}
 pub use Rattle.rpm_hindex.specs.Index.{records, units_at}
@@ -38,7 +38,7 @@ pub use Rattle.rpm_hindex.specs.declared.plan.Patches.{Patches}
 pub use Rattle.rpm_hindex.specs.declared.plan.Work.{Work}
 pub use Rattle.rpm_hindex.specs.declared.plan.Work.TheVariants.{InPlace, Scratch}
 pub use Rattle.rpm_hindex.specs.declared.row_search.Start.{Start}
-pub use Rattle.rpm_hindex.specs.declared.rows.RowHead.{RowHead}
+pub use Rattle.rpm_hindex.specs.declared.piece.PackedHead.{PackedHead}
 pub use Rattle.rpm_hindex.specs.declared.spots.Spot.{Spot}
 pub use Rattle.rpm_hindex.specs.inner.Changes.{AddsRows, CanGo, index_after, CountsLess, DropOfOne, HasFault, HasGone, HasLess, HasNoFault, HasWord, if_kept}
 pub use Rattle.rpm_hindex.specs.inner.Changes.{index_with, is_kept, IsBadSoFar, IsBehind, IsChainFault, IsWithoutDropped, IsFreshChange, IsHonest}
@@ -49,7 +49,7 @@ pub use Rattle.rpm_hindex.specs.inner.Drafts.{draft_index, HasDraftUnits, IsDraf
 pub use Rattle.rpm_hindex.specs.inner.Making.{key_padding}
 unfoldable pub use Rattle.rpm_hindex.specs.inner.Making.{record_of}
 pub use Rattle.rpm_hindex.specs.inner.Ongoing.{IsDropFault}
-pub use Rattle.rpm_hindex.specs.inner.Packed.{AreKeysPacked, no_head, row_in, packed_rows}
+pub use Rattle.rpm_hindex.specs.inner.Packed.{AreKeysPacked, ArePieces, joined, left_rows, no_head, row_in, packed_rows}
 pub use Rattle.rpm_hindex.specs.inner.Records.{HasBuckets}
 pub use Rattle.rpm_hindex.specs.laws.RowLaws.{live-append, once, same_is, times-append, times-cons, times_none, times_one, without}
 pub use Rattle.rpm_hindex.specs.inner.Spots.{HasNone, IsRecordAhead, IsRowFound, IsFoundFrom, IsFront, IsRecordHead, IsHeadWithin, IsLastPlace}
@@ -65,7 +65,7 @@ pub use Rattle.rpm_outside.specs.Looks.{OnlyReads, OnlyReadsFile}
 pub use Rattle.rpm_outside.specs.Words.{unit_of_words}
 unfoldable pub use Rattle.rpm_outside.specs.Words.{bytes_of_word, word}
 pub use Rattle.rpm_outside.specs.declared.disk.File.TheVariants.{Idx}
-pub use Rattle.rpm_outside.specs.laws.Changing.{changes_between, changes_sync, changes_then, changes_weaker, changes_write}
+pub use Rattle.rpm_outside.specs.laws.Changing.{changes_between, changes_none, changes_sync, changes_then, changes_weaker, changes_write}
 pub use Rattle.rpm_outside.specs.laws.Cuts.{bytes_of-cut_up, cut_up_one, length-cut_up, unit_at-cut_up}
 pub use Rattle.rpm_outside.specs.laws.Looking.{looks_at_from, looks_at_none, looks_at_then, looks_more, looks_none, looks_then}
 pub use Rattle.rpm_outside.specs.laws.PutLaws.{same_units}

@@ -6,9 +6,9 @@ ghost use Rattle.rpm_hindex.specs.Prelude.{IsUnchanged, CanBegin, CanGo, CanStar
 use crate::chain::{Extent, is_link};
 use crate::faults::{FindFault, PrepareFault};
 use crate::patches::{put_unit, unlink, with_word, words_of};
+use crate::piece::RowRef;
 use crate::records::{bucket_of, push_record, record_units};
 use crate::row_search::{Start, find_row};
-use crate::rows::RowRef;
 use crate::spots::Spot;
 use rpm_outside::{Disk, word};
 use std::alloc::Global;

@@ -1,11 +1,13 @@
 //! An index made from scratch in memory.
 
-ghost use Rattle.std.specs.Prelude.{◌≡◌, ◌≢◌, ◌+◌, ◌*◌, ◌/◌, ◌%◌, ◌^◌, ◌≤◌, ◌<◌, ◌++◌, [], List, length, drop, true, OnOk, IfOk, Err};
-ghost use Rattle.rpm_hindex.specs.Prelude.{bucket_count, bytes_of_word, first_record, flat_map, is_bucket_count, IsDraft, IsIndexFull, IsDraftOf, live_of, one_row, record_units, Row, unit_of_words, units_for};
+ghost use Rattle.std.specs.Prelude.{◌≡◌, ◌≢◌, ◌+◌, ◌*◌, ◌/◌, ◌%◌, ◌^◌, ◌≤◌, ◌<◌, ◌++◌, [], List, length, drop, true, OnOk, IfOk, IfErr, Err};
+ghost use Rattle.rpm_hindex.specs.inner.Packed.{left_rows};
+ghost use Rattle.rpm_hindex.specs.Prelude.{bucket_count, bytes_of_word, first_record, flat_map, is_bucket_count, IsDraft, IsIndexFull, IsDraftOf, IsRebuildRefused, live_of, one_row, record_units, Row, unit_of_words, units_for};
 
 use crate::faults::RewriteFault;
+use crate::piece::{Piece, RowRef, row_in_piece};
 use crate::records::{UNITS, bucket_count, bucket_of, index_units, push_record, push_word};
-use crate::rows::{RowRef, Rows, row_ref};
+use crate::rows::Rows;
 use rpm_outside::unit_of_words;
 use std::alloc::{AllocError, Global};
 
@@ -72,21 +74,57 @@ fn add_record(draft: &mut Draft, row: RowRef<'_>) -> Result<(), AllocError>
     Ok(())
 }
 
-/// Adds a record for each row.
-fn add_records(draft: &mut Draft, rows: &Rows) -> Result<(), AllocError>
+/// Adds a record for each row of a piece.
+fn add_records(draft: &mut Draft, rows: &Piece) -> Result<(), AllocError>
     requires some { 0 < length draft.old.heads.items }
     requires few { length draft.old.heads.items ≤ 2 ^ 28 }
     requires whole { length draft.old.bytes.items % 16 ≡ 0 }
     requires room { 1 + length draft.old.bytes.items / 16 + live_of rows.now ≤ 2 ^ 28 }
     ensures heads { OnOk result (length draft.new.heads.items ≡ length draft.old.heads.items) }
     ensures long { OnOk result (length draft.new.bytes.items ≡ length draft.old.bytes.items + 16 * live_of rows.now) }
-    ensures rows { OnOk result (IsDraft [] draft.old.heads.items draft.old.bytes.items
-        → IsDraft rows.now draft.new.heads.items draft.new.bytes.items) }
+    ensures rows { OnOk result ((before : List Row) → IsDraft before draft.old.heads.items draft.old.bytes.items
+        → IsDraft (before ++ rows.now) draft.new.heads.items draft.new.bytes.items) }
 {
     for i in 0..rows.len() {
-        add_record(draft, row_ref(rows, i))?;
+        add_record(draft, row_in_piece(rows, i))?;
     }
     Ok(())
+}
+
+/// Adds a record for each row of these pieces, the last piece first, and frees each.
+fn add_pieces(draft: &mut Draft, pieces: Vec<Piece>) -> Result<(), AllocError>
+    requires some { 0 < length draft.old.heads.items }
+    requires few { length draft.old.heads.items ≤ 2 ^ 28 }
+    requires whole { length draft.old.bytes.items % 16 ≡ 0 }
+    requires room { 1 + length draft.old.bytes.items / 16 + live_of (left_rows pieces.items) ≤ 2 ^ 28 }
+    ensures heads { OnOk result (length draft.new.heads.items ≡ length draft.old.heads.items) }
+    ensures long { OnOk result (length draft.new.bytes.items ≡ length draft.old.bytes.items + 16 * live_of (left_rows pieces.items)) }
+    ensures rows { OnOk result (IsDraft [] draft.old.heads.items draft.old.bytes.items
+        → IsDraft (left_rows pieces.items) draft.new.heads.items draft.new.bytes.items) }
+{
+    let mut left = pieces;
+    while let Some(piece) = left.pop() {
+        add_records(draft, &piece)?;
+    }
+    Ok(())
+}
+
+/// Adds a record for each row, and frees the rows piece by piece.
+fn add_all(draft: &mut Draft, rows: Rows) -> Result<(), AllocError>
+    requires some { 0 < length draft.old.heads.items }
+    requires few { length draft.old.heads.items ≤ 2 ^ 28 }
+    requires whole { length draft.old.bytes.items % 16 ≡ 0 }
+    requires room { 1 + length draft.old.bytes.items / 16 + live_of rows ≤ 2 ^ 28 }
+    ensures heads { OnOk result (length draft.new.heads.items ≡ length draft.old.heads.items) }
+    ensures long { OnOk result (length draft.new.bytes.items ≡ length draft.old.bytes.items + 16 * live_of rows) }
+    ensures rows { OnOk result (IsDraft [] draft.old.heads.items draft.old.bytes.items
+        → IsDraft rows draft.new.heads.items draft.new.bytes.items) }
+{
+    let (full, last) = rows.into_pieces();
+    let mut full = full;
+    full.reverse();
+    add_pieces(draft, full)?;
+    add_records(draft, &last)
 }
 
 /// Unit 1, and the words of the buckets.
@@ -120,27 +158,45 @@ fn with_front(bytes: Vec<u8>, front: &[u8]) -> Vec<u8>
 }
 
 impl Image {
-    /// The index of these rows, with so many buckets. Takes 4 bytes of memory a bucket twice, and the records once.
-    pub fn of_rows(alloc: Global, rows: &Rows, buckets: u32) -> Result<Image, AllocError>
+    /// The index of these rows, with so many buckets. Takes 4 bytes of memory a bucket twice, and frees the rows as their
+    /// records are made.
+    pub fn of_rows(alloc: Global, rows: Rows, buckets: u32) -> Result<Image, AllocError>
         requires count { is_bucket_count buckets ≡ true }
-        requires room { first_record buckets + live_of rows.now ≤ 2 ^ 28 }
+        requires room { first_record buckets + live_of rows ≤ 2 ^ 28 }
         ensures buckets { IfOk result (λ image. image.buckets ≡ buckets) }
-        ensures made { IfOk result (λ image. IsDraftOf rows.now buckets image.bytes.items) }
+        ensures made { IfOk result (λ image. IsDraftOf rows buckets image.bytes.items) }
     {
         let mut draft = Draft::new(alloc, buckets, rows.live() as usize)?;
-        add_records(&mut draft, rows)?;
-        let second = counts_of(buckets, rows);
+        let second = counts_of(buckets, &rows);
+        add_all(&mut draft, rows)?;
         let front = front_of(alloc, &second, &draft.heads)?;
         let bytes = with_front(draft.bytes, &front);
         Ok(Image { buckets, bytes })
     }
 }
 
-/// The image of these rows, where the units that it needs are few enough.
-pub fn image_of(alloc: Global, rows: &Rows) -> Result<Image, RewriteFault>
+/// Whether the units that an index of these rows needs are few enough.
+///
+/// # Errors
+///
+/// `IndexFull` where they aren't.
+pub fn check_room(rows: &Rows) -> Result<(), RewriteFault>
     ensures full { IsIndexFull (units_for rows.now) result }
-    ensures buckets { IfOk result (λ image. image.buckets ≡ bucket_count (length rows.now)) }
-    ensures made { IfOk result (λ image. IsDraftOf rows.now (bucket_count (length rows.now)) image.bytes.items) }
+    ensures refused { IfErr result IsRebuildRefused }
+    ensures kind { result ≢ Err RewriteFault.DiskFault }
+{
+    let needed = index_units(rows.len() as u64, rows.live());
+    if needed > UNITS {
+        return Err(RewriteFault::IndexFull { needed });
+    }
+    Ok(())
+}
+
+/// The image of these rows, where the units that it needs are few enough.
+pub fn image_of(alloc: Global, rows: Rows) -> Result<Image, RewriteFault>
+    ensures full { IsIndexFull (units_for rows) result }
+    ensures buckets { IfOk result (λ image. image.buckets ≡ bucket_count (length rows)) }
+    ensures made { IfOk result (λ image. IsDraftOf rows (bucket_count (length rows)) image.bytes.items) }
     ensures disk { result ≢ Err RewriteFault.DiskFault }
 {
     let needed = index_units(rows.len() as u64, rows.live());

@@ -7,6 +7,7 @@ use crate::chain::{Extent, read_bucket};
 use crate::change::{Change, prepare_fault};
 use crate::faults::{FindFault, PrepareFault};
 use crate::heads::{Ahead, Head, read_head};
+use crate::piece::Piece;
 use crate::reads::read_key_into;
 use crate::records::bucket_of;
 use crate::rows::{Rows, row_ref};
@@ -21,7 +22,7 @@ fn push_row<D: Disk>(
     bucket: u32,
     head: Head,
     is_kept: bool,
-    rows: &mut Rows,
+    rows: &mut Piece,
     buffer: &mut Vec<u8>,
 ) -> Result<(), FindFault>
     requires some { 0 < extent.buckets }
@@ -61,7 +62,7 @@ fn push_from<D: Disk>(
     bucket: u32,
     from: u32,
     dropped: &BTreeSet<u32>,
-    rows: &mut Rows,
+    rows: &mut Piece,
     buffer: &mut Vec<u8>,
 ) -> Result<(), FindFault>
     requires some { 0 < extent.buckets }
@@ -89,7 +90,7 @@ pub fn push_chain<D: Disk>(
     extent: Extent,
     bucket: u32,
     dropped: &BTreeSet<u32>,
-    rows: &mut Rows,
+    rows: &mut Piece,
     buffer: &mut Vec<u8>,
 ) -> Result<(), FindFault>
     requires bucket { bucket < extent.buckets }
@@ -117,7 +118,7 @@ pub fn check_chain<D: Disk>(
     ensures reads { ReadsAtOr D.Disk Idx (result ≡ Err FindFault.DiskFault) disk.old disk.new }
 {
     let dropped = BTreeSet::new(alloc);
-    let mut rows = Rows::new(alloc);
+    let mut rows = Piece::new(alloc);
     let mut buffer = Vec::new(alloc);
     push_chain(disk, extent, bucket, &dropped, &mut rows, &mut buffer)
 }

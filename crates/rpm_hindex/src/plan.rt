@@ -8,6 +8,7 @@ use crate::change::{Change, prepare_fault};
 use crate::faults::{PrepareFault, RewriteFault};
 use crate::image::{Image, image_of};
 use crate::kept_rows::push_chain;
+use crate::piece::Piece;
 use crate::rows::{Rows, row_ref};
 use rpm_outside::{Disk, unit_of_words};
 use std::alloc::{AllocError, Global};
@@ -139,7 +140,7 @@ fn kept_rows<D: Disk>(
     disk: &mut D,
     extent: Extent,
     dropped: &BTreeSet<u32>,
-) -> Result<Rows, PrepareFault>
+) -> Result<Piece, PrepareFault>
     requires open { CanRead D.Disk disk.old extent }
     ensures other { IfErr result (λ e. IsOther e) }
     ensures rows { IfOk result (λ rows. IsTrue D.tells
@@ -147,7 +148,7 @@ fn kept_rows<D: Disk>(
     ensures bad { IfErr result (λ e. IsTrue D.tells → IsFaulty extent.buckets (D.files disk.old).idx e) }
     ensures reads { ReadsAtOr D.Disk Idx (result ≡ Err PrepareFault.DiskFault) disk.old disk.new }
 {
-    let mut rows = Rows::new(alloc);
+    let mut rows = Piece::new(alloc);
     let mut buffer = Vec::new(alloc);
     for bucket in 0..extent.buckets {
         if let Err(fault) = push_chain(disk, extent, bucket, dropped, &mut rows, &mut buffer) {
@@ -157,23 +158,12 @@ fn kept_rows<D: Disk>(
     Ok(rows)
 }
 
-/// Adds these rows to others.
-fn append_rows(rows: &mut Rows, others: &Rows) -> Result<(), AllocError>
-    ensures { OnOk result (rows.new ≡ rows.old ++ others.now) }
-{
-    for i in 0..others.len() {
-        let head = others.head(i);
-        rows.add(head.kind, others.key(i), head.number, head.place)?;
-    }
-    Ok(())
-}
-
 /// The image of these rows, where the units that it needs are few enough.
-fn scratch_of(alloc: Global, rows: &Rows) -> Result<Image, PrepareFault>
-    ensures fits { IfOk result (λ image. units_for rows.now ≤ 2 ^ 28) }
-    ensures buckets { IfOk result (λ image. image.buckets ≡ bucket_count (length rows.now)) }
-    ensures made { IfOk result (λ image. IsDraftOf rows.now (bucket_count (length rows.now)) image.bytes.items) }
-    ensures full { IfErr result (IsTooLarge rows.now) }
+fn scratch_of(alloc: Global, rows: Rows) -> Result<Image, PrepareFault>
+    ensures fits { IfOk result (λ image. units_for rows ≤ 2 ^ 28) }
+    ensures buckets { IfOk result (λ image. image.buckets ≡ bucket_count (length rows)) }
+    ensures made { IfOk result (λ image. IsDraftOf rows (bucket_count (length rows)) image.bytes.items) }
+    ensures full { IfErr result (IsTooLarge rows) }
 {
     match image_of(alloc, rows) {
         Ok(image) => Ok(image),
@@ -182,22 +172,30 @@ fn scratch_of(alloc: Global, rows: &Rows) -> Result<Image, PrepareFault>
     }
 }
 
-/// The image of the rows that are kept, and of those that are added after them. Where none is kept, as in an import
-/// into a new database, the added ones aren't copied.
-fn image_with(alloc: Global, kept: Rows, adds: &Rows) -> Result<Image, PrepareFault>
-    ensures fits { IfOk result (λ image. units_for (kept ++ adds.now) ≤ 2 ^ 28) }
-    ensures buckets { IfOk result (λ image. image.buckets ≡ bucket_count (length (kept ++ adds.now))) }
-    ensures made { IfOk result (λ image. IsDraftOf (kept ++ adds.now) (bucket_count (length (kept ++ adds.now))) image.bytes.items) }
-    ensures full { IfErr result (IsTooLarge (kept ++ adds.now)) }
+/// The rows that are kept, and those that are added after them. Where none is kept, as in an import into a new
+/// database, the added ones aren't copied.
+fn kept_with(alloc: Global, kept: Piece, adds: Rows) -> Result<Rows, AllocError>
+    ensures { IfOk result (λ rows. rows ≡ kept ++ adds) }
 {
     if kept.len() == 0 {
-        return scratch_of(alloc, adds);
+        return Ok(adds);
     }
-    let mut rows = kept;
-    if append_rows(&mut rows, adds).is_err() {
+    let mut rows = Rows::of_piece(alloc, kept);
+    rows.append(&adds)?;
+    Ok(rows)
+}
+
+/// The image of the rows that are kept, and of those that are added after them.
+fn image_with(alloc: Global, kept: Piece, adds: Rows) -> Result<Image, PrepareFault>
+    ensures fits { IfOk result (λ image. units_for (kept ++ adds) ≤ 2 ^ 28) }
+    ensures buckets { IfOk result (λ image. image.buckets ≡ bucket_count (length (kept ++ adds))) }
+    ensures made { IfOk result (λ image. IsDraftOf (kept ++ adds) (bucket_count (length (kept ++ adds))) image.bytes.items) }
+    ensures full { IfErr result (IsTooLarge (kept ++ adds)) }
+{
+    let Ok(rows) = kept_with(alloc, kept, adds) else {
         return Err(PrepareFault::NoMemory);
-    }
-    scratch_of(alloc, &rows)
+    };
+    scratch_of(alloc, rows)
 }
 
 /// What is written from scratch. The kept rows are added from the last to the first, so that those of a chain stand
@@ -206,14 +204,14 @@ pub fn from_scratch<D: Disk>(
     alloc: Global,
     disk: &mut D,
     change: &Change,
-    adds: &Rows,
+    adds: Rows,
 ) -> Result<IndexPlan, PrepareFault>
     requires open { CanRead D.Disk disk.old change.now.extent }
     ensures leaves { IfOk result (λ plan. LeavesWhole plan.work) }
     ensures full { IfErr result (λ e. IsTrue D.tells → IsTooLarge (reverse
-        (kept_in (index_of_change change.now (D.files disk.old).idx) change.now) ++ adds.now) e) }
+        (kept_in (index_of_change change.now (D.files disk.old).idx) change.now) ++ adds) e) }
     ensures made { IfOk result (λ plan. IsTrue D.tells → IsScratchOf (reverse
-        (kept_in (index_of_change change.now (D.files disk.old).idx) change.now) ++ adds.now) plan.work) }
+        (kept_in (index_of_change change.now (D.files disk.old).idx) change.now) ++ adds) plan.work) }
     ensures bad { IfErr result (λ e. IsTrue D.tells → IsFaulty change.now.extent.buckets (D.files disk.old).idx e) }
     ensures reads { ReadsAtOr D.Disk Idx (result ≡ Err PrepareFault.DiskFault) disk.old disk.new }
 {

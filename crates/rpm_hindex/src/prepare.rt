@@ -9,7 +9,7 @@ use crate::index::Hindex;
 use crate::kept_rows::drop_rows;
 use crate::plan::{IndexPlan, add_rows, from_scratch, has_room, in_place};
 use crate::records::{UNITS, index_units};
-use crate::rows::Rows;
+use crate::rows::{Rows, copy_of};
 use rpm_outside::{Disk, word};
 use std::alloc::Global;
 
@@ -54,32 +54,33 @@ impl Hindex {
         alloc: Global,
         disk: &mut D,
         drops: &Rows,
-        adds: &Rows,
+        adds: Rows,
         limit: u64,
     ) -> Result<IndexPlan, PrepareFault>
         requires limit { limit ≤ 2 ^ 28 }
         requires order { is_in_order self.now ≡ true }
         requires keeps { IsTrue D.tells → KeepsIndexValue (D.files disk.old).idx self.now }
         ensures can { IfOk result (λ plan. CanWrite self.now.units plan.work) }
-        ensures prepared { IfOk result (λ plan. IsPrepared D.Disk disk.old self.now drops.now adds.now plan.work) }
-        ensures refused { IfErr result (IsUnprepared D.Disk disk.old self.now drops.now adds.now) }
+        ensures prepared { IfOk result (λ plan. IsPrepared D.Disk disk.old self.now drops.now adds plan.work) }
+        ensures refused { IfErr result (IsUnprepared D.Disk disk.old self.now drops.now adds) }
         ensures cost { IsTrue D.tells → IsWellFormed (buckets_of self.now.first) (D.files disk.old).idx
-            → StaysWithin limit drops.now adds.now (buckets_of self.now.first) (D.files disk.old).idx
+            → StaysWithin limit drops.now adds (buckets_of self.now.first) (D.files disk.old).idx
             → D.bytes_read disk.new Idx ≤ D.bytes_read disk.old Idx + chains_bytes
-            (index_in (buckets_of self.now.first) (D.files disk.old).idx) drops.now + 16 * length adds.now }
+            (index_in (buckets_of self.now.first) (D.files disk.old).idx) drops.now + 16 * length adds }
         ensures reads { ReadsAtOr D.Disk Idx (result ≡ Err PrepareFault.DiskFault) disk.old disk.new }
     {
         let mut change = self.start(alloc);
         drop_rows(alloc, disk, &mut change, drops)?;
-        if !has_room(&change, adds, limit) {
+        if !has_room(&change, &adds, limit) {
             return from_scratch(alloc, disk, &change, adds);
         }
-        add_rows(disk, &mut change, adds)?;
+        add_rows(disk, &mut change, &adds)?;
         in_place(alloc, change)
     }
 
     /// Works out a change of the index: drops a record of each of these rows, where there is one, and then adds
-    /// records. Writes nothing, and takes all memory that the change needs.
+    /// records. Writes nothing, and takes all memory that the change needs. Where the index is made from scratch, the
+    /// added rows are freed as their records are made.
     ///
     /// Drops the last row first, and looks for each after the one of its bucket that was dropped before it; only
     /// where it isn't there, from the front of the chain as far as that one. So the rows of a package, which stand in
@@ -100,6 +101,32 @@ impl Hindex {
     ///   well-formed file only there: `needed` of them.
     /// - `DiskFault` only where the disk's count of faults rose.
     /// - `NoMemory` where the change finds no memory.
+    pub fn prepare_owned<D: Disk>(
+        &self,
+        alloc: Global,
+        disk: &mut D,
+        drops: &Rows,
+        adds: Rows,
+    ) -> Result<IndexPlan, PrepareFault>
+        requires order { is_in_order self.now ≡ true }
+        requires keeps { IsTrue D.tells → KeepsIndexValue (D.files disk.old).idx self.now }
+        ensures can { IfOk result (λ plan. CanWrite self.now.units plan.work) }
+        ensures prepared { IfOk result (λ plan. IsPrepared D.Disk disk.old self.now drops.now adds plan.work) }
+        ensures refused { IfErr result (IsUnprepared D.Disk disk.old self.now drops.now adds) }
+        ensures cost { IsTrue D.tells → IsWellFormed (buckets_of self.now.first) (D.files disk.old).idx
+            → StaysInPlace drops.now adds (buckets_of self.now.first) (D.files disk.old).idx
+            → D.bytes_read disk.new Idx ≤ D.bytes_read disk.old Idx + chains_bytes
+            (index_in (buckets_of self.now.first) (D.files disk.old).idx) drops.now + 16 * length adds }
+        ensures reads { ReadsAtOr D.Disk Idx (result ≡ Err PrepareFault.DiskFault) disk.old disk.new }
+    {
+        self.prepare_within(alloc, disk, drops, adds, UNITS)
+    }
+
+    /// Works out a change of the index, as `prepare_owned` does, of a copy of the added rows.
+    ///
+    /// # Errors
+    ///
+    /// Those of `prepare_owned`; `NoMemory` also where the copy finds no memory.
     pub fn prepare<D: Disk>(
         &self,
         alloc: Global,
@@ -118,6 +145,9 @@ impl Hindex {
             (index_in (buckets_of self.now.first) (D.files disk.old).idx) drops.now + 16 * length adds.now }
         ensures reads { ReadsAtOr D.Disk Idx (result ≡ Err PrepareFault.DiskFault) disk.old disk.new }
     {
-        self.prepare_within(alloc, disk, drops, adds, UNITS)
+        let Ok(copy) = copy_of(alloc, adds) else {
+            return Err(PrepareFault::NoMemory);
+        };
+        self.prepare_owned(alloc, disk, drops, copy)
     }
 }

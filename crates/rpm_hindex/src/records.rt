@@ -3,7 +3,7 @@
 ghost use Rattle.std.specs.Prelude.{◌≡◌, ◌%◌, ◌^◌, ◌≤◌, ◌<◌, ◌++◌, length, take, OnOk, OnErr};
 ghost use Rattle.rpm_hindex.specs.Prelude.{bucket_count, bytes_of, bytes_of_word, fnv, hash_of, index_units, is_bucket_count, key_padding, record_of, record_units};
 
-use crate::rows::RowRef;
+use crate::piece::RowRef;
 use rpm_outside::{bytes_of_word, unit_of_words};
 use std::alloc::AllocError;
 

@@ -7,7 +7,7 @@ use crate::chain::{Extent, read_bucket};
 use crate::faults::FindFault;
 use crate::heads::Head;
 use crate::kept_rows::check_chain;
-use crate::rows::RowRef;
+use crate::piece::RowRef;
 use crate::spots::{Spot, find_spot};
 use rpm_outside::Disk;
 use std::alloc::Global;

@@ -1,36 +1,34 @@
 //! Rows that an index is made of.
 
-ghost use Rattle.std.specs.Prelude.{◌≡◌, ◌≤◌, ◌<◌, ◌^◌, ◌++◌, ◌∷◌, [], length, reverse, IfOk, OnOk, OnErr};
+ghost use Rattle.std.specs.Prelude.{◌≡◌, ◌≤◌, ◌<◌, ◌^◌, ◌++◌, ◌∷◌, [], length, IfOk, OnOk, OnErr};
 ghost use Rattle.rpm_hindex.specs.Prelude.{live_of, Row, row_nth};
+ghost use Rattle.rpm_hindex.specs.inner.Packed.{joined};
 
+use crate::piece::{MOST, Piece, RowRef, row_in_piece};
 use crate::records::record_units;
 use std::alloc::{AllocError, Global};
 use std::marker::Model;
+use std::mem;
 
-/// A row, whose key stands among the keys of all rows.
+/// A row without its key.
 #[derive(Clone, Copy)]
 pub struct RowHead {
     pub kind: u8,
-    pub start: u64,
     pub length: u32,
     pub number: u32,
     pub place: u32,
 }
 
-/// A row that is to be dropped or added.
-#[derive(Clone, Copy)]
-pub struct RowRef<'a> {
-    pub kind: u8,
-    pub key: &'a [u8],
-    pub number: u32,
-    pub place: u32,
-}
+/// How many rows a piece has that is full. Its memory is then of a size that goes back to the system when it is freed.
+const FULL: usize = 16_384;
 
 /// Rows in the order in which they were pushed. Contracts see the list. A row takes 24 bytes of memory and its key.
+/// They stand in pieces, so that who takes them by value frees those that it is done with.
 #[derive(Drop)]
 pub struct Rows {
-    heads: Vec<RowHead>,
-    keys: Vec<u8>,
+    alloc: Global,
+    full: Vec<Piece>,
+    last: Piece,
     live: u64,
 }
 
@@ -40,25 +38,18 @@ impl Model for Rows {
 
     ghost Value = { List Row };
 
-    ghost use Rattle.rpm_hindex.specs.inner.Packed.{packed_rows, AreKeysPacked};
+    ghost use Rattle.rpm_hindex.specs.inner.Packed.{ArePieces, joined};
 
-    ghost view = { λ s. packed_rows s.keys.items s.heads.items };
+    ghost view = { λ s. joined s.full.items s.last };
 
-    ghost invariant = { λ s. AreKeysPacked s.heads.items s.keys.items s.live };
+    ghost invariant = { λ s. ArePieces s.full.items s.last s.live };
 }
-
-// The most units that rows may need together; memory for as many never is.
-const MOST: u64 = 1_152_921_504_606_846_976;
 
 impl Rows {
     pub fn new(alloc: Global) -> Rows
         ensures { result ≡ [] }
     {
-        Rows {
-            heads: Vec::new(alloc),
-            keys: Vec::new(alloc),
-            live: 0,
-        }
+        Rows::of_piece(alloc, Piece::new(alloc))
     }
 
     /// No rows, with room for so many, whose keys have so many bytes together.
@@ -69,11 +60,34 @@ impl Rows {
     pub fn with_room(alloc: Global, rows: usize, bytes: usize) -> Result<Rows, AllocError>
         ensures { IfOk result (λ rows. rows ≡ []) }
     {
-        Ok(Rows {
-            heads: Vec::with_capacity(alloc, rows)?,
-            keys: Vec::with_capacity(alloc, bytes)?,
-            live: 0,
-        })
+        let piece = Piece::with_room(alloc, rows, bytes)?;
+        Ok(Rows::of_piece(alloc, piece))
+    }
+
+    /// The rows of a piece.
+    pub(crate) fn of_piece(alloc: Global, piece: Piece) -> Rows
+        ensures { result ≡ piece }
+    {
+        let live = piece.live();
+        Rows {
+            alloc,
+            full: Vec::new(alloc),
+            last: piece,
+            live,
+        }
+    }
+
+    /// Begins a new piece, where the last one is full.
+    fn turn_over(&mut self) -> Result<(), AllocError>
+        ensures { self.new ≡ self.old }
+    {
+        if self.last.len() != FULL {
+            return Ok(());
+        }
+        self.full.reserve(1)?;
+        let full = mem::replace(&mut self.last, Piece::new(self.alloc));
+        self.full.push_reserved(full);
+        Ok(())
     }
 
     /// Adds a row at the end. Copies the key.
@@ -98,36 +112,41 @@ impl Rows {
         ensures ok { OnOk result (self.new ≡ self.old ++ record { kind = kind; key = key.now; number = number; place = place } ∷ []) }
         ensures err { OnErr result (self.new ≡ self.old) }
     {
-        let length = key.len() as u32;
-        let units = record_units(length) as u64;
+        self.turn_over()?;
+        self.add_last(kind, key, number, place)
+    }
+
+    /// Adds a row to the last piece.
+    fn add_last(&mut self, kind: u8, key: &[u8], number: u32, place: u32) -> Result<(), AllocError>
+        requires kind { kind ≤ 15 }
+        requires key { length key.now < 268435456 }
+        ensures ok { OnOk result (self.new ≡ self.old ++ record { kind = kind; key = key.now; number = number; place = place } ∷ []) }
+        ensures err { OnErr result (self.new ≡ self.old) }
+    {
+        let units = record_units(key.len() as u32) as u64;
         if self.live > MOST - units {
             return Err(AllocError);
         }
-        let start = self.keys.len() as u64;
-        self.heads.reserve(1)?;
-        self.keys.extend_from_slice(key)?;
-        self.heads.push(RowHead {
-            kind,
-            start,
-            length,
-            number,
-            place,
-        })?;
+        self.last.add(kind, key, number, place)?;
         self.live += units;
         Ok(())
     }
 
-    /// Turns the rows round: the last is the first then.
-    pub(crate) fn reverse(&mut self)
-        ensures { self.new ≡ reverse self.old }
+    /// Adds these rows at the end.
+    pub(crate) fn append(&mut self, others: &Rows) -> Result<(), AllocError>
+        ensures { OnOk result (self.new ≡ self.old ++ others.now) }
     {
-        self.heads.reverse();
+        for i in 0..others.len() {
+            let row = others.row(i);
+            self.add(row.kind, row.key, row.number, row.place)?;
+        }
+        Ok(())
     }
 
     pub fn len(&self) -> usize
         ensures { result ≡ length self.now }
     {
-        self.heads.len()
+        FULL * self.full.len() + self.last.len()
     }
 
     /// The units that records of these rows have.
@@ -136,8 +155,23 @@ impl Rows {
         ensures bound { result ≤ 2 ^ 60 }
         ensures count { length self.now ≤ result }
     {
-        let _ = &self.heads;
+        let _ = &self.full;
         self.live
+    }
+
+    /// Row i.
+    pub(crate) fn row(&self, i: usize) -> RowRef<'_>
+        requires { i < length self.now }
+        ensures row { (record { kind = result.kind; key = result.key.now; number = result.number; place = result.place }) ≡ row_nth self.now i }
+        ensures kind { result.kind < 16 }
+        ensures short { length result.key.now < 2 ^ 28 }
+    {
+        let piece = i / FULL;
+        if piece < self.full.len() {
+            row_in_piece(&self.full[piece], i % FULL)
+        } else {
+            row_in_piece(&self.last, i - FULL * self.full.len())
+        }
     }
 
     /// Row i without its key.
@@ -150,7 +184,13 @@ impl Rows {
         ensures kinds { result.kind < 16 }
         ensures short { result.length < 2 ^ 28 }
     {
-        self.heads[i]
+        let row = self.row(i);
+        RowHead {
+            kind: row.kind,
+            length: row.key.len() as u32,
+            number: row.number,
+            place: row.place,
+        }
     }
 
     /// The key of row i.
@@ -158,9 +198,14 @@ impl Rows {
         requires { i < length self.now }
         ensures { result.now ≡ (row_nth self.now i).key }
     {
-        let head = self.heads[i];
-        let start = head.start as usize;
-        &self.keys[start..start + head.length as usize]
+        self.row(i).key
+    }
+
+    /// The pieces that are full, and the last one.
+    pub(crate) fn into_pieces(self) -> (Vec<Piece>, Piece)
+        ensures { joined result.0.items result.1 ≡ self }
+    {
+        (self.full, self.last)
     }
 }
 
@@ -171,11 +216,14 @@ pub fn row_ref(rows: &Rows, i: usize) -> RowRef<'_>
     ensures kind { result.kind < 16 }
     ensures short { length result.key.now < 2 ^ 28 }
 {
-    let head = rows.head(i);
-    RowRef {
-        kind: head.kind,
-        key: rows.key(i),
-        number: head.number,
-        place: head.place,
-    }
+    rows.row(i)
+}
+
+/// The same rows once more.
+pub fn copy_of(alloc: Global, rows: &Rows) -> Result<Rows, AllocError>
+    ensures { IfOk result (λ copy. copy ≡ rows.now) }
+{
+    let mut copy = Rows::new(alloc);
+    copy.append(rows)?;
+    Ok(copy)
 }

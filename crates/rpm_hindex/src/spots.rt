@@ -7,7 +7,7 @@ use crate::chain::Extent;
 use crate::faults::FindFault;
 use crate::heads::{Head, Met, meet, read_head};
 use crate::hits::Hit;
-use crate::rows::RowRef;
+use crate::piece::RowRef;
 use rpm_outside::Disk;
 use std::alloc::Global;
 use std::collections::BTreeSet;

@@ -1,50 +1,17 @@
 //! Writing the index.
 
 ghost use Rattle.std.specs.Prelude.{◌≡◌, ℕ, ◌+◌, ◌/◌, ◌%◌, ◌^◌, ◌≤◌, ◌<◌, ◌∷◌, [], List, IsTrue, true, length, max, OnOk, IfErr, Err};
-ghost use Rattle.rpm_hindex.specs.Prelude.{AddsPadded, file_after, after_tail, after_units, ArePadded, ArePatches, blank, buckets_after, CanWrite, Idx, index_in, is_current, is_ordered, IsAfter, IsChanged, IsIndexFull, IsPaddedPlan, IsPlanFor, IsRebuildRefused, IsRebuiltIndex, IsSame, IsSealed, IsDurable, IsWellFormed, KeepsIndexValue, IsDurableAs, LeavesOrder, patch_at, with_units, records, Row, SameRows, SameSeal, seal_unit, SealedOrSame, Torn, units_for, units_of, VoidOrSame, VoidOrSameSeal, Writes, WritesOr, WritesPadded};
+ghost use Rattle.rpm_hindex.specs.Prelude.{AddsPadded, file_after, after_tail, after_units, ArePadded, ArePatches, blank, buckets_after, CanWrite, Idx, index_in, is_current, is_ordered, IsAfter, IsChanged, IsIndexFull, IsPaddedPlan, IsPlanFor, IsRebuildRefused, IsRebuiltIndex, IsSealed, IsDurable, IsWellFormed, KeepsIndexValue, IsDurableAs, LeavesOrder, patch_at, with_units, records, Row, SameRows, SameSeal, seal_unit, SealedOrSame, units_for, VoidOrSame, VoidOrSameSeal, Writes, WritesOr, WritesPadded};
 
 use crate::faults::{IndexDiskFault, RewriteFault};
-use crate::image::{Image, image_of};
+use crate::image::{Image, check_room, image_of};
 use crate::index::{Hindex, MAGIC};
+use crate::parts::{write_image, write_synced, write_units};
 use crate::plan::{IndexPlan, Patch, Patches, Work};
 use crate::records::first_unit;
-use crate::rows::Rows;
-use rpm_outside::{Disk, File, unit_of_words};
+use crate::rows::{Rows, copy_of};
+use rpm_outside::{Disk, unit_of_words};
 use std::alloc::Global;
-
-/// Writes units of Hindex.db.
-fn write_units<D: Disk>(disk: &mut D, unit: u64, bytes: &[u8]) -> Result<(), IndexDiskFault>
-    requires some { 0 < length bytes.now }
-    requires whole { length bytes.now % 16 ≡ 0 }
-    requires room { unit + length bytes.now / 16 ≤ 2 ^ 28 }
-    ensures written { OnOk result (IsTrue D.tells → (D.files disk.new).idx ≡ with_units unit (units_of bytes.now) (D.files disk.old).idx) }
-    ensures writes { Writes D.Disk Idx (Torn unit (units_of bytes.now)) 0 result disk.old disk.new }
-{
-    disk.write_at(File::Idx, unit, bytes)
-        .map_err(|_| IndexDiskFault)
-}
-
-/// Makes Hindex.db durable.
-fn sync<D: Disk>(disk: &mut D) -> Result<(), IndexDiskFault>
-    ensures same { IsTrue D.tells → (D.files disk.new).idx ≡ (D.files disk.old).idx }
-    ensures durable { OnOk result (IsTrue D.tells → IsDurable D.Disk Idx disk.new) }
-    ensures writes { Writes D.Disk Idx IsSame 0 result disk.old disk.new }
-{
-    disk.sync(File::Idx).map_err(|_| IndexDiskFault)
-}
-
-/// Writes units of Hindex.db, and makes it durable.
-fn write_synced<D: Disk>(disk: &mut D, unit: u64, bytes: &[u8]) -> Result<(), IndexDiskFault>
-    requires some { 0 < length bytes.now }
-    requires whole { length bytes.now % 16 ≡ 0 }
-    requires room { unit + length bytes.now / 16 ≤ 2 ^ 28 }
-    ensures written { OnOk result (IsTrue D.tells → (D.files disk.new).idx ≡ with_units unit (units_of bytes.now) (D.files disk.old).idx) }
-    ensures durable { OnOk result (IsTrue D.tells → IsDurable D.Disk Idx disk.new) }
-    ensures writes { Writes D.Disk Idx (Torn unit (units_of bytes.now)) 0 result disk.old disk.new }
-{
-    write_units(disk, unit, bytes)?;
-    sync(disk)
-}
 
 /// Writes one unit after unit 0.
 fn write_patch<D: Disk>(disk: &mut D, patch: Patch) -> Result<(), IndexDiskFault>
@@ -141,14 +108,46 @@ impl Hindex {
     /// Makes the first unit zeros, writes an index of these rows from scratch, and makes the file durable. The index isn't
     /// sealed then. No unit of it is dead: it has as many as `index_units` says.
     ///
-    /// Reads nothing. All memory is taken before the first write: once that of the rows, and 8 bytes a bucket.
-    /// Records go out in one large write, and the time is linear in the rows.
+    /// Reads nothing. All memory is taken before the first write: that of the records, and 8 bytes a bucket. The rows
+    /// are freed as their records are made, and the records as they are written, so that little more than one of the
+    /// two is held at any moment. Records go out in writes of 1 MiB, the last first, and the time is linear in the rows.
     ///
     /// # Errors
     ///
     /// - `IndexFull` exactly where the rows need more than 268435456 units.
     /// - `DiskFault` only where the disk's count of faults rose. What the value keeps is then no more said of the file.
     /// - `NoMemory` where the index finds no memory. After this and `IndexFull` nothing was called or changed.
+    pub fn rewrite_owned<D: Disk>(
+        &mut self,
+        alloc: Global,
+        disk: &mut D,
+        rows: Rows,
+    ) -> Result<(), RewriteFault>
+        requires keeps { IsTrue D.tells → KeepsIndexValue (D.files disk.old).idx self.old }
+        ensures full { IsIndexFull (units_for rows) result }
+        ensures value { OnOk result (IsRebuiltIndex rows self.new) }
+        ensures grows { OnOk result (self.new.units ≤ max self.old.units (units_for rows)) }
+        ensures ordered { OnOk result (is_ordered self.new.pending self.new.second self.new.units ≡ true) }
+        ensures kept { OnOk result (IsTrue D.tells → KeepsIndexValue (D.files disk.new).idx self.new) }
+        ensures whole { OnOk result (IsTrue D.tells → IsWellFormed self.new.pending (D.files disk.new).idx) }
+        ensures rows { OnOk result (IsTrue D.tells → SameRows rows (records self.new.pending (D.files disk.new).idx)) }
+        ensures padded { OnOk result (IsTrue D.tells → ArePadded (index_in self.new.pending (D.files disk.new).idx)) }
+        ensures durable { OnOk result (IsTrue D.tells → IsDurable D.Disk Idx disk.new) }
+        ensures refused { IfErr result (λ e. IsRebuildRefused e → (self.new ≡ self.old) × (disk.new ≡ disk.old)) }
+        ensures writes { WritesOr D.Disk Idx VoidOrSame 0 (result ≡ Err RewriteFault.DiskFault) disk.old disk.new }
+    {
+        let image = image_of(alloc, rows)?;
+        let Ok(()) = self.replace(disk, image) else {
+            return Err(RewriteFault::DiskFault);
+        };
+        Ok(())
+    }
+
+    /// Writes an index of these rows from scratch, as `rewrite_owned` does, of a copy of the rows.
+    ///
+    /// # Errors
+    ///
+    /// Those of `rewrite_owned`; `NoMemory` also where the copy finds no memory.
     pub fn rewrite<D: Disk>(
         &mut self,
         alloc: Global,
@@ -168,26 +167,28 @@ impl Hindex {
         ensures refused { IfErr result (λ e. IsRebuildRefused e → (self.new ≡ self.old) × (disk.new ≡ disk.old)) }
         ensures writes { WritesOr D.Disk Idx VoidOrSame 0 (result ≡ Err RewriteFault.DiskFault) disk.old disk.new }
     {
-        let image = image_of(alloc, rows)?;
-        let Ok(()) = self.replace(disk, &image) else {
-            return Err(RewriteFault::DiskFault);
+        check_room(rows)?;
+        let Ok(copy) = copy_of(alloc, rows) else {
+            return Err(RewriteFault::NoMemory);
         };
-        Ok(())
+        self.rewrite_owned(alloc, disk, copy)
     }
 
     /// Makes the first unit zeros, writes units 1 to the end, and makes the file durable.
-    fn replace<D: Disk>(&mut self, disk: &mut D, image: &Image) -> Result<(), IndexDiskFault>
-        requires can { CanWrite self.old.units (Work.Scratch image.now) }
+    fn replace<D: Disk>(&mut self, disk: &mut D, image: Image) -> Result<(), IndexDiskFault>
+        requires can { CanWrite self.old.units (Work.Scratch image) }
         requires keeps { IsTrue D.tells → KeepsIndexValue (D.files disk.old).idx self.old }
-        ensures value { OnOk result (IsAfter self.old self.new (Work.Scratch image.now)) }
+        ensures value { OnOk result (IsAfter self.old self.new (Work.Scratch image)) }
         ensures voided { OnOk result (self.new.first ≡ blank) }
-        ensures left { OnOk result (IsDurableAs D.Disk disk.new self.new (file_after (Work.Scratch image.now) (D.files disk.old).idx)) }
+        ensures left { OnOk result (IsDurableAs D.Disk disk.new self.new (file_after (Work.Scratch image) (D.files disk.old).idx)) }
         ensures writes { Writes D.Disk Idx VoidOrSame 0 result disk.old disk.new }
     {
         self.void(disk)?;
-        write_synced(disk, 1, &image.bytes)?;
-        self.second = first_unit(&image.bytes);
-        self.units = self.units.max(1 + image.bytes.len() as u64 / 16);
+        let second = first_unit(&image.bytes);
+        let units = 1 + image.bytes.len() as u64 / 16;
+        write_image(disk, image.bytes)?;
+        self.second = second;
+        self.units = self.units.max(units);
         self.pending = image.buckets;
         Ok(())
     }
@@ -213,7 +214,8 @@ impl Hindex {
 
     /// Writes a change, and makes the file durable. The index isn't sealed then. Takes no memory and reads nothing.
     ///
-    /// In place, all new records are one write, and then each unit that changes is one.
+    /// In place, all new records are one write, and then each unit that changes is one. From scratch, records go out in
+    /// writes of 1 MiB, the last first, and each is freed when it is written.
     ///
     /// # Errors
     ///
@@ -235,8 +237,8 @@ impl Hindex {
             (index_in (buckets_after plan.work) (D.files disk.new).idx)) }
         ensures writes { Writes D.Disk Idx VoidOrSameSeal 0 result disk.old disk.new }
     {
-        match &plan.work {
-            Work::InPlace(patches) => self.patch(disk, patches),
+        match plan.work {
+            Work::InPlace(patches) => self.patch(disk, &patches),
             Work::Scratch(image) => self.replace(disk, image),
         }
     }

@@ -1,21 +1,22 @@
 -- Rows whose keys stand one after the other.
-use Rattle.std.specs.Prelude.{◌≡◌, ℕ, ◌+◌, ◌≤◌, ◌<◌, ◌^◌, List, take, drop, map, length, slice_index_or}
-use Rattle.rpm_hindex.specs.declared.rows.RowHead.{RowHead}
+use Rattle.std.specs.Prelude.{◌≡◌, ℕ, ◌+◌, ◌≤◌, ◌<◌, ◌^◌, List, [], ◌++◌, take, drop, map, length, reverse, slice_index_or}
+use Rattle.std.specs.List.{flat_map}
+use Rattle.rpm_hindex.specs.declared.piece.PackedHead.{PackedHead}
 use Rattle.rpm_hindex.specs.Rows.{Row}
 use Rattle.rpm_hindex.specs.Sizes.{live_of}
 
-abbrev pub row_in : List ℕ → RowHead → Row
+abbrev pub row_in : List ℕ → PackedHead → Row
 row_in keys head =
     record { kind = head.kind; key = take head.length (drop head.start keys); number = head.number; place = head.place }
 
-abbrev pub packed_rows : List ℕ → List RowHead → List Row
+abbrev pub packed_rows : List ℕ → List PackedHead → List Row
 packed_rows keys heads = map (row_in keys) heads
 
-abbrev pub no_head : RowHead
+abbrev pub no_head : PackedHead
 no_head = record { kind = 0; start = 0; length = 0; number = 0; place = 0 }
 
 -- each key lies within the bytes
-pub record AreKeysPacked (heads : List RowHead) (keys : List ℕ) (live : ℕ) : Type 0 where
+pub record AreKeysPacked (heads : List PackedHead) (keys : List ℕ) (live : ℕ) : Type 0 where
   pub within : (i : ℕ) → i < length heads → (slice_index_or heads i no_head).start
       + (slice_index_or heads i no_head).length ≤ length keys
   pub short : (i : ℕ) → i < length heads → (slice_index_or heads i no_head).length < 2 ^ 28
@@ -23,3 +24,20 @@ pub record AreKeysPacked (heads : List RowHead) (keys : List ℕ) (live : ℕ) :
   pub units : live ≡ live_of (packed_rows keys heads)
   pub most : live ≤ 2 ^ 60
   pub count : length heads ≤ live
+
+-- ---- rows in pieces
+
+-- the rows of these pieces, and after them those of the last one
+abbrev pub joined : List (List Row) → List Row → List Row
+joined full last = flat_map (λ (rows : List Row). rows) full ++ last
+
+-- the rows of pieces of which the last comes first
+abbrev pub left_rows : List (List Row) → List Row
+left_rows pieces = flat_map (λ (rows : List Row). rows) (reverse pieces)
+
+-- each piece but the last has 16384 rows
+pub record ArePieces (full : List (List Row)) (last : List Row) (live : ℕ) : Type 0 where
+  pub each : (i : ℕ) → i < length full → length (slice_index_or full i []) ≡ 16384
+  pub units : live ≡ live_of (joined full last)
+  pub most : live ≤ 2 ^ 60
+  pub count : length (joined full last) ≤ live

@@ -11,13 +11,13 @@ use Rattle.rpm_db.proofs.planning.prepare_owed.Goals as goal
 
 -- ---- it was worked out
 
-pub returns-in-Ok-prepare-clause-plan : goal.returns-in-Ok-prepare-clause-plan
-returns-in-Ok-prepare-clause-plan g c =
+pub returns-in-Ok-prepare_owned-clause-plan : goal.returns-in-Ok-prepare_owned-clause-plan
+returns-in-Ok-prepare_owned-clause-plan g c =
     let idx = (g.D.Disk.files c.args.disk.now).idx in
     let owed = c.args.owed in
     let net = c.in-Ok.net in
-    let e = c.in-Ok-prepare.ensures in
-    let work = c.in-Ok-prepare.plan.work in
+    let e = c.in-Ok-prepare_owned.ensures in
+    let work = c.in-Ok-prepare_owned.plan.work in
     record {
       can = record { can = e.can; ordered = e.prepared.ordered };
       leads = λ old new balances.
@@ -43,29 +43,29 @@ returns-in-Ok-prepare-clause-plan g c =
           whole_plan net.drops net.adds c.args.index.now.first idx work (c.requires.keeps told).first (λ well. (e.prepared.change told well).makes) whole;
     }
 
-pub returns-in-Ok-prepare-clause-grows : goal.returns-in-Ok-prepare-clause-grows
-returns-in-Ok-prepare-clause-grows g c = λ told.
+pub returns-in-Ok-prepare_owned-clause-grows : goal.returns-in-Ok-prepare_owned-clause-grows
+returns-in-Ok-prepare_owned-clause-grows g c = λ told.
     let idx = (g.D.Disk.files c.args.disk.now).idx in
     let owed = c.args.owed in
     let net = c.in-Ok.net in
     let found = found_rows idx in
     omega (
       arith,
-      subst (λ (u : List ℕ). units_after c.in-Ok-prepare.plan.work ≤ reach_with net.adds (records (buckets_of u) idx) c.args.index.now.units)
-          (c.requires.keeps told).first (c.in-Ok-prepare.ensures.prepared.grows told),
+      subst (λ (u : List ℕ). units_after c.in-Ok-prepare_owned.plan.work ≤ reach_with net.adds (records (buckets_of u) idx) c.args.index.now.units)
+          (c.requires.keeps told).first (c.in-Ok-prepare_owned.ensures.prepared.grows told),
       live_less net.adds owed.adds (λ row. omega (arith, c.in-Ok.ensures.1 row)),
       units_less (found ++ net.adds) (found ++ owed.adds)
           (λ row. omega (arith, c.in-Ok.ensures.1 row, times-append row found net.adds, times-append row found owed.adds)),
     )
 
-pub returns-in-Ok-prepare-clause-full : goal.returns-in-Ok-prepare-clause-full
-returns-in-Ok-prepare-clause-full g c = λ told old new has balances.
+pub returns-in-Ok-prepare_owned-clause-full : goal.returns-in-Ok-prepare_owned-clause-full
+returns-in-Ok-prepare_owned-clause-full g c = λ told old new has balances.
     let idx = (g.D.Disk.files c.args.disk.now).idx in
     let net = c.in-Ok.net in
     let first = (c.requires.keeps told).first in
     let whole = subst (λ (u : List ℕ). IsWellFormed (buckets_of u) idx) (sym first) has.whole in
     let changed = of_records net.drops net.adds old new idx has (balance_netted c.args.owed net (rows old) (rows new) c.in-Ok.ensures balances) in
-    (c.in-Ok-prepare.ensures.prepared.change told whole).room (rows new)
+    (c.in-Ok-prepare_owned.ensures.prepared.change told whole).room (rows new)
     (subst (λ (u : List ℕ). HasChanged net.drops net.adds (records (buckets_of u) idx) (rows new)) (sym first) changed)
 
 -- ---- or not

@@ -6,7 +6,7 @@ use Rattle.rpm_hindex.proofs.plan.from_scratch.Goals as goal
 
 pub returns-in-Ok-clause-leaves : goal.returns-in-Ok-clause-leaves
 returns-in-Ok-clause-leaves g c =
-    let rows = c.reverse.new.self ++ c.args.adds.now in
+    let rows = c.reverse.new.self ++ c.args.adds in
     let image = c.in-Ok.image in
     let made = c.in-Ok.ensures.made in
     let room : first_record (bucket_count (length rows)) + live_of rows ≤ 2 ^ 28 = omega (arith, c.in-Ok.ensures.fits) in

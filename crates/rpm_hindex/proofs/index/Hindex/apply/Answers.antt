@@ -1,5 +1,5 @@
-use Rattle.std.proofs.Common.{◌≡◌, true, ℕ, List, OnOk, sym, subst, ap, ◌∙◌}
-use Rattle.rpm_hindex.proofs.Vocabulary.{file_after, buckets_after, index_in, is_ordered, IsAfter, IsChanged, IsPaddedPlan, IsPlanFor, IsDurableAs, LeavesOrder}
+use Rattle.std.proofs.Common.{rules, ◌≡◌, true, ℕ, List, sym, subst, ap, ◌∙◌}
+use Rattle.rpm_hindex.proofs.Vocabulary.{file_after, buckets_after, index_in, is_ordered, IsAfter, IsChanged, IsPaddedPlan, IsPlanFor, LeavesOrder}
 use Rattle.rpm_hindex.proofs.Vocabulary.{records, Row, IndexState, Units, Work, WritesPadded}
 use Rattle.rpm_hindex.proofs.Results.{on_ok}
 use Rattle.rpm_hindex.proofs.index.Hindex.apply.Goals as goal
@@ -21,41 +21,37 @@ unfolding IsPaddedPlan
 padded buckets old new work is plan = subst (λ (f : Units). WritesPadded work (index_in buckets old) (index_in (buckets_after work) f)) (sym is) plan
 
 pub returns-in-InPlace-clause-value : goal.returns-in-InPlace-clause-value
-returns-in-InPlace-clause-value g c = subst (λ (w : Work). OnOk c.patch.result (IsAfter c.args.self.now c.patch.new.self w)) (sym c.in-InPlace.is)
-    c.patch.ensures.value
-
-pub returns-clause-value : goal.returns-clause-value
-returns-clause-value g c = subst (λ (w : Work). OnOk c.replace.result (IsAfter c.args.self.now c.replace.new.self w)) (sym c.in-Scratch.is)
-    c.replace.ensures.value
+returns-in-InPlace-clause-value g c = search rules
 
 pub returns-in-InPlace-clause-ordered : goal.returns-in-InPlace-clause-ordered
 returns-in-InPlace-clause-ordered g c =
     on_ok c.patch.result _ _ (ordered c.args.self.now c.patch.new.self c.args.plan.work) (returns-in-InPlace-clause-value g c)
 
-pub returns-clause-ordered : goal.returns-clause-ordered
-returns-clause-ordered g c =
-    on_ok c.replace.result _ _ (ordered c.args.self.now c.replace.new.self c.args.plan.work) (returns-clause-value g c)
-
 pub returns-in-InPlace-clause-left : goal.returns-in-InPlace-clause-left
-returns-in-InPlace-clause-left g c = subst (λ (w : Work). OnOk c.patch.result (IsDurableAs g.D.Disk c.patch.new.disk c.patch.new.self
-    (file_after w (g.D.Disk.files c.args.disk.now).idx))) (sym c.in-InPlace.is) c.patch.ensures.left
-
-pub returns-clause-left : goal.returns-clause-left
-returns-clause-left g c = subst (λ (w : Work). OnOk c.replace.result (IsDurableAs g.D.Disk c.replace.new.disk c.replace.new.self
-    (file_after w (g.D.Disk.files c.args.disk.now).idx))) (sym c.in-Scratch.is) c.replace.ensures.left
+returns-in-InPlace-clause-left g c = search rules
 
 pub returns-in-InPlace-clause-rows : goal.returns-in-InPlace-clause-rows
 returns-in-InPlace-clause-rows g c = on_ok c.patch.result _ _ (λ left told drops adds B plan. applied drops adds B _ _ c.args.plan.work
     (left.written told) plan) (returns-in-InPlace-clause-left g c)
 
-pub returns-clause-rows : goal.returns-clause-rows
-returns-clause-rows g c = on_ok c.replace.result _ _ (λ left told drops adds B plan. applied drops adds B _ _ c.args.plan.work
-    (left.written told) plan) (returns-clause-left g c)
-
 pub returns-in-InPlace-clause-padded : goal.returns-in-InPlace-clause-padded
 returns-in-InPlace-clause-padded g c = on_ok c.patch.result _ _ (λ left told B plan. padded B _ _ c.args.plan.work (left.written told) plan)
     (returns-in-InPlace-clause-left g c)
 
-pub returns-clause-padded : goal.returns-clause-padded
-returns-clause-padded g c = on_ok c.replace.result _ _ (λ left told B plan. padded B _ _ c.args.plan.work (left.written told) plan)
-    (returns-clause-left g c)
+pub returns-in-Scratch-clause-value : goal.returns-in-Scratch-clause-value
+returns-in-Scratch-clause-value g c = search rules
+
+pub returns-in-Scratch-clause-ordered : goal.returns-in-Scratch-clause-ordered
+returns-in-Scratch-clause-ordered g c =
+    on_ok c.replace.result _ _ (ordered c.args.self.now c.replace.new.self c.args.plan.work) (returns-in-Scratch-clause-value g c)
+
+pub returns-in-Scratch-clause-left : goal.returns-in-Scratch-clause-left
+returns-in-Scratch-clause-left g c = search rules
+
+pub returns-in-Scratch-clause-rows : goal.returns-in-Scratch-clause-rows
+returns-in-Scratch-clause-rows g c = on_ok c.replace.result _ _ (λ left told drops adds B plan. applied drops adds B _ _ c.args.plan.work
+    (left.written told) plan) (returns-in-Scratch-clause-left g c)
+
+pub returns-in-Scratch-clause-padded : goal.returns-in-Scratch-clause-padded
+returns-in-Scratch-clause-padded g c = on_ok c.replace.result _ _ (λ left told B plan. padded B _ _ c.args.plan.work (left.written told) plan)
+    (returns-in-Scratch-clause-left g c)

@@ -1,8 +1,8 @@
-use Rattle.std.proofs.Common.{◌≡◌, ℕ, Vec, Global, arith, ◌-◌, ◌++◌, sym, ap, ◌∙◌, subst, ◌+◌, ◌*◌, ◌/◌, ◌≤◌, true, false, length, reverse}
+use Rattle.std.proofs.Common.{rules, ◌≡◌, ℕ, Vec, Global, arith, ◌-◌, ◌++◌, sym, ap, ◌∙◌, subst, ◌+◌, ◌*◌, ◌/◌, ◌≤◌, true, false, length, reverse}
 use Rattle.std.specs.Prelude.{IsTrue}
 use Rattle.rpm_hindex.proofs.Vocabulary.{AddsPadded, AddsRows, buckets_of, Change, index_after, Extent, Files, first_record, HasLess, index_in, is_bucket_count}
 use Rattle.rpm_hindex.proofs.Vocabulary.{IsBad, IsBadFor, IsFaulty, IsHonest, IsPaddedPlan, IsPlanFor, IsScratchOf, IsTooLarge, IsTooLargeFor, IsWhole}
-use Rattle.rpm_hindex.proofs.Vocabulary.{contains, is_kept, nat_cmp, records, rows_of, times}
+use Rattle.rpm_hindex.proofs.Vocabulary.{contains, Idx, is_kept, looks_at_from, looks_at_then, nat_cmp, records, rows_of, times}
 use Rattle.rpm_hindex.proofs.Gathers.{scratch_plan, scratch_padded, large_for, scratch_reach, place_reach, scratch_sized, place_sized, place_zero}
 use Rattle.rpm_hindex.proofs.Placing.{place_order, place_plan, place_padded}
 use Rattle.rpm_hindex.proofs.Honest.{faulty_bad, faulty_for, bad_memory}
@@ -21,7 +21,7 @@ returns-then-not-has_room-clause-prepared g c = if_ok_two c.from_scratch.result 
     let B = buckets_of c.args.self.now.first in
     let file : Files = g.D.Disk.files c.args.disk.now in
     let drops = c.args.drops.now in
-    let adds = c.args.adds.now in
+    let adds = c.args.adds in
     let first : Change = c.start-change.result in
     let new : Change = c.drop_rows.new.change in
     let same = ap (λ (e : Extent). e.buckets) c.in_ok-drop_rows.ensures.keeps.extent ∙ c.start-change.ensures.buckets in
@@ -63,10 +63,10 @@ returns-then-not-has_room-clause-refused g c = if_err_two c.from_scratch.result 
           let all = less_reversed drops (records B file.idx) (rows_kept_by B file.idx new)
           (rows_less B file.idx drops first new c.start-change.ensures.buckets c.start-change.ensures.dropped
           (c.in_ok-drop_rows.ensures.dropped told).less whole) in
-          let at_file = subst (λ (f : Files). IsTooLarge (reverse (rows_kept_by new.extent.buckets f.idx new) ++ c.args.adds.now) e)
+          let at_file = subst (λ (f : Files). IsTooLarge (reverse (rows_kept_by new.extent.buckets f.idx new) ++ c.args.adds) e)
           ((c.drop_rows.ensures.reads.looks.untouched told).same) (large told) in
-          large_for drops c.args.adds.now (reverse (rows_kept_by B file.idx new)) (records B file.idx) e all
-          (subst (λ (n : ℕ). IsTooLarge (reverse (rows_kept_by n file.idx new) ++ c.args.adds.now) e) same at_file);
+          large_for drops c.args.adds (reverse (rows_kept_by B file.idx new)) (records B file.idx) e all
+          (subst (λ (n : ℕ). IsTooLarge (reverse (rows_kept_by n file.idx new) ++ c.args.adds) e) same at_file);
       bad = λ told. faulty_bad B file.idx e (subst (λ (n : ℕ). IsFaulty n file.idx e) same (subst (λ (f : Files). IsFaulty new.extent.buckets f.idx e)
           ((c.drop_rows.ensures.reads.looks.untouched told).same) (bad told)));
       counts = λ told. faulty_for drops B file.idx e (subst (λ (n : ℕ). IsFaulty n file.idx e) same
@@ -78,7 +78,7 @@ returns-clause-prepared g c = if_ok_two c.in_place.result _ _ _ (λ plan can mad
     let B = buckets_of c.args.self.now.first in
     let file : Files = g.D.Disk.files c.args.disk.now in
     let drops = c.args.drops.now in
-    let adds = c.args.adds.now in
+    let adds = c.args.adds in
     let first = c.start-change.ensures in
     let mid : Change = c.drop_rows.new.change in
     let last : Change = c.add_rows.new.change in
@@ -129,7 +129,7 @@ returns-clause-refused g c = if_err c.in_place.result _ _ (λ e is.
     let file : Files = g.D.Disk.files c.args.disk.now in
     let drops = c.args.drops.now in
     record {
-      full = λ told whole. subst (IsTooLargeFor drops c.args.adds.now (records B file.idx)) (sym is) tt;
+      full = λ told whole. subst (IsTooLargeFor drops c.args.adds (records B file.idx)) (sym is) tt;
       bad = λ told. faulty_bad B file.idx e (bad_memory B file.idx e is);
       counts = λ told. faulty_for drops B file.idx e (bad_memory B file.idx e is);
     }) c.in_place.ensures.memory
@@ -141,7 +141,7 @@ returns-in_err-drop_rows-clause-refused g c =
     let drops = c.args.drops.now in
     let start = c.start-change.ensures in
     record {
-      full = λ told whole. other_large drops c.args.adds.now (records B file.idx) c.in_err-drop_rows.field-0.0 c.in_err-drop_rows.ensures.other;
+      full = λ told whole. other_large drops c.args.adds (records B file.idx) c.in_err-drop_rows.field-0.0 c.in_err-drop_rows.ensures.other;
       bad = λ told. subst (λ (n : ℕ). IsBad n file.idx c.in_err-drop_rows.field-0.0) start.buckets
           (c.in_err-drop_rows.ensures.bad told (start.honest file.idx (c.requires.keeps told)));
       counts = λ told.
@@ -165,7 +165,7 @@ returns-in_err-add_rows-clause-refused g c =
     (subst (λ (f : Files). IsHonest new f.idx → IsFaulty new.extent.buckets f.idx e)
     ((c.drop_rows.ensures.reads.looks.untouched told).same) (c.in_err-add_rows.ensures.bad told) honest) in
     record {
-      full = λ told whole. other_large drops c.args.adds.now (records B file.idx) e c.in_err-add_rows.ensures.other;
+      full = λ told whole. other_large drops c.args.adds (records B file.idx) e c.in_err-add_rows.ensures.other;
       bad = λ told. faulty_bad B file.idx e (faulty told);
       counts = λ told. faulty_for drops B file.idx e (faulty told);
     })
@@ -200,9 +200,39 @@ returns-then-not-has_room-clause-cost g c = λ told whole stays.
     c.in_ok-drop_rows.ensures.keeps.tail first.tail
     (first.«open» file.idx (c.requires.keeps told)) (first.whole file.idx (c.requires.keeps told) whole).cut
     (c.in_ok-drop_rows.ensures.dropped told).cuts less whole in
-    let most = changed_least (index_after mid file.idx) mid.records mid.live drops c.args.adds.now (records B file.idx) stays.rows left.cut.whole left.rows'
+    let most = changed_least (index_after mid file.idx) mid.records mid.live drops c.args.adds (records B file.idx) stays.rows left.cut.whole left.rows'
     stays.changed in
     let room : c.has_room.result ≡ true = c.has_room.ensures.least (omega (arith, most.0, stays.few, left.buckets))
     (omega (arith, left.open'.used, stays.room)) (omega (arith, left.open'.used, stays.half, most.1, left.buckets)) in
     let no' : true ≡ false = sym room ∙ c.if-not-has_room.true in
     absurd (let wrong : ⊥ = cc in wrong)
+
+pub returns-then-not-has_room-clause-reads : goal.returns-then-not-has_room-clause-reads
+returns-then-not-has_room-clause-reads g c = record {
+  looks =
+      looks_at_then _ Idx g.met.D.Disk.follows_trans c.args.disk.now c.drop_rows.new.disk c.from_scratch.new.disk c.drop_rows.ensures.reads.looks
+      c.from_scratch.ensures.reads.looks;
+  cause = record {
+    later = omega (arith, c.drop_rows.ensures.reads.cause.later, c.from_scratch.ensures.reads.cause.later);
+    rose = λ is. omega (arith, c.drop_rows.ensures.reads.cause.later, c.from_scratch.ensures.reads.cause.rose is);
+  };
+}
+
+pub returns-in_err-add_rows-clause-reads : goal.returns-in_err-add_rows-clause-reads
+returns-in_err-add_rows-clause-reads g c = record {
+  looks =
+      looks_at_then _ Idx g.met.D.Disk.follows_trans c.args.disk.now c.drop_rows.new.disk c.add_rows.new.disk c.drop_rows.ensures.reads.looks
+      (looks_at_from _ Idx (16 * length c.args.adds) c.drop_rows.new.disk c.add_rows.new.disk c.add_rows.ensures.reads.looks);
+  cause = search rules;
+}
+
+pub returns-clause-reads : goal.returns-clause-reads
+returns-clause-reads g c = record {
+  looks =
+      looks_at_then _ Idx g.met.D.Disk.follows_trans c.args.disk.now c.drop_rows.new.disk c.add_rows.new.disk c.drop_rows.ensures.reads.looks
+      (looks_at_from _ Idx (16 * length c.args.adds) c.drop_rows.new.disk c.add_rows.new.disk c.add_rows.ensures.reads.looks);
+  cause = record {
+    later = omega (arith, c.drop_rows.ensures.reads.cause.later, c.add_rows.ensures.reads.cause.later);
+    rose = λ is. let clash = rw is at c.in_place.ensures.memory in absurd cc;
+  };
+}
