@@ -154,8 +154,8 @@ pub fn prepare_owed<D: Disk>(
     let Ok(net) = netted(alloc, owed) else {
         return Err(ChangeFault::NoMemory);
     };
-    let adds = net.adds;
-    match index.prepare_owned(alloc, disk, &net.drops, adds) {
+    let RowChange { drops, adds } = net;
+    match index.prepare_owned(alloc, disk, &drops, adds) {
         Ok(plan) => Ok(plan),
         Err(PrepareFault::IndexFull { needed }) => Err(ChangeFault::IndexFull { needed }),
         Err(PrepareFault::BadIndex { unit }) => Err(ChangeFault::BadIndex { unit }),

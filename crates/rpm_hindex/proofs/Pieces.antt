@@ -4,7 +4,7 @@ use Rattle.std.proofs.lemmas.List.{append-nil, get_or_append_left, get_or-append
 use Rattle.std.proofs.lemmas.List.Concat.{flat_map-cons}
 use Rattle.std.proofs.lemmas.Grind.{flat_map-append}
 use Rattle.std.proofs.lemmas.Bool.{cases_lt}
-use Rattle.rpm_hindex.proofs.Vocabulary.{ArePieces, flat_map, IsDraft, joined, left_rows, live-append, live_of, no_row, record_units, Row, row_nth}
+use Rattle.rpm_hindex.proofs.Vocabulary.{ArePieces, flat_map, IsDraft, rows_in_pieces, left_rows, live-append, live_of, no_row, record_units, Row, row_nth}
 use Rattle.rpm_hindex.proofs.Drafting.{live_push}
 
 abbrev pub id : List Row → List Row
@@ -14,11 +14,11 @@ id rows = rows
 pub flat_push : (full : List (List Row)) (rows : List Row) → flat_map id (full ++ rows ∷ []) ≡ flat_map id full ++ rows
 flat_push full rows = flat_map-append id full (rows ∷ []) ∙ ap (λ (rs : List Row). flat_map id full ++ rs) (append-nil rows)
 
-pub joined_turned : (full : List (List Row)) (last : List Row) → joined (full ++ last ∷ []) [] ≡ joined full last
-joined_turned full last = append-nil (flat_map id (full ++ last ∷ [])) ∙ flat_push full last
+pub rows_turned : (full : List (List Row)) (last : List Row) → rows_in_pieces (full ++ last ∷ []) [] ≡ rows_in_pieces full last
+rows_turned full last = append-nil (flat_map id (full ++ last ∷ [])) ∙ flat_push full last
 
-pub joined_more : (full : List (List Row)) (last : List Row) (row : Row) → joined full (last ++ row ∷ []) ≡ joined full last ++ row ∷ []
-joined_more full last row = sym (append_assoc (flat_map id full) last (row ∷ []))
+pub rows_more : (full : List (List Row)) (last : List Row) (row : Row) → rows_in_pieces full (last ++ row ∷ []) ≡ rows_in_pieces full last ++ row ∷ []
+rows_more full last row = sym (append_assoc (flat_map id full) last (row ∷ []))
 
 pub pieces_of_one : (rows : List Row) (live : ℕ) → live ≡ live_of rows → live ≤ 2 ^ 60 → length rows ≤ live → ArePieces [] rows live
 pieces_of_one rows live units most count = record { each = λ i lt. absurd (omega arith); units = units; most = most; count = count }
@@ -30,18 +30,18 @@ pieces_turned full last live are long = record {
     | inl below ↦ ap (λ (rows : List Row). length rows) (get_or_append_left full (last ∷ []) [] i below) ∙ are.each i below
     | inr past ↦ ap (λ (rows : List Row). length rows) (get_or_push full last [] i (omega (arith, length_push full last, lt, past))) ∙ long
   ];
-  units = are.units ∙ sym (ap live_of (joined_turned full last));
+  units = are.units ∙ sym (ap live_of (rows_turned full last));
   most = are.most;
-  count = omega (arith, are.count, ap (λ (rows : List Row). length rows) (joined_turned full last));
+  count = omega (arith, are.count, ap (λ (rows : List Row). length rows) (rows_turned full last));
 }
 
 pub pieces_more : (full : List (List Row)) (last : List Row) (live units : ℕ) (row : Row) → ArePieces full last live → units ≡ record_units (length row.key)
     → live + units ≤ 2 ^ 60 → ArePieces full (last ++ row ∷ []) (live + units)
 pieces_more full last live units row are size most = record {
   each = are.each;
-  units = omega (arith, are.units, size, ap live_of (joined_more full last row), live_push (joined full last) row);
+  units = omega (arith, are.units, size, ap live_of (rows_more full last row), live_push (rows_in_pieces full last) row);
   most = most;
-  count = omega (arith, are.count, size, ap (λ (rows : List Row). length rows) (joined_more full last row), length_push (joined full last) row);
+  count = omega (arith, are.count, size, ap (λ (rows : List Row). length rows) (rows_more full last row), length_push (rows_in_pieces full last) row);
 }
 
 -- ---- where a row stands
@@ -56,9 +56,9 @@ length_full (rows ∷ full) each = omega (
   length_full full (λ i lt. each (suc i) (omega (arith, lt))),
 )
 
-pub length_joined : (full : List (List Row)) (last : List Row) (live : ℕ) → ArePieces full last live → length (joined full last)
+pub length_rows : (full : List (List Row)) (last : List Row) (live : ℕ) → ArePieces full last live → length (rows_in_pieces full last)
     ≡ 16384 * length full + length last
-length_joined full last live are = omega (arith, length-append (flat_map id full) last, length_full full are.each)
+length_rows full last live are = omega (arith, length-append (flat_map id full) last, length_full full are.each)
 
 nth_flat : (full : List (List Row)) → ((i : ℕ) → i < length full → length (get_or full i []) ≡ 16384) → (p k : ℕ) → p < length full → k < 16384
     → get_or (flat_map id full) (16384 * p + k) no_row ≡ get_or (get_or full p []) k no_row
@@ -75,7 +75,7 @@ nth_flat (rows ∷ full) each (suc p) k lt small =
 
 module _ (full : List (List Row)) (last : List Row) (live : ℕ) (are : ArePieces full last live) where
   -- a row in a piece that is full
-  pub row_in_full : (i : ℕ) → i / 16384 < length full → row_nth (joined full last) i ≡ row_nth (get_or full (i / 16384) []) (i % 16384)
+  pub row_in_full : (i : ℕ) → i / 16384 < length full → row_nth (rows_in_pieces full last) i ≡ row_nth (get_or full (i / 16384) []) (i % 16384)
   row_in_full i lt =
       let at : i ≡ 16384 * (i / 16384) + i % 16384 = omega arith in
       get_or_append_left (flat_map id full) last no_row i (omega (arith, length_full full are.each, lt))
@@ -83,7 +83,7 @@ module _ (full : List (List Row)) (last : List Row) (live : ℕ) (are : ArePiece
       ∙ nth_flat full are.each (i / 16384) (i % 16384) lt (omega arith)
 
   -- a row in the last piece
-  pub row_in_last : (i : ℕ) → 16384 * length full ≤ i → row_nth (joined full last) i ≡ row_nth last (i - 16384 * length full)
+  pub row_in_last : (i : ℕ) → 16384 * length full ≤ i → row_nth (rows_in_pieces full last) i ≡ row_nth last (i - 16384 * length full)
   row_in_last i from =
       get_or-append_right (flat_map id full) last (16384 * length full) i no_row (length_full full are.each) from
 

@@ -199,10 +199,7 @@ pub fn image_of(alloc: Global, rows: Rows) -> Result<Image, RewriteFault>
     ensures made { IfOk result (λ image. IsDraftOf rows (bucket_count (length rows)) image.bytes.items) }
     ensures disk { result ≢ Err RewriteFault.DiskFault }
 {
-    let needed = index_units(rows.len() as u64, rows.live());
-    if needed > UNITS {
-        return Err(RewriteFault::IndexFull { needed });
-    }
+    check_room(&rows)?;
     let buckets = bucket_count(rows.len() as u64) as u32;
     let Ok(image) = Image::of_rows(alloc, rows, buckets) else {
         return Err(RewriteFault::NoMemory);

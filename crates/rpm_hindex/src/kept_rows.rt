@@ -10,7 +10,7 @@ use crate::heads::{Ahead, Head, read_head};
 use crate::piece::Piece;
 use crate::reads::read_key_into;
 use crate::records::bucket_of;
-use crate::rows::{Rows, row_ref};
+use crate::rows::Rows;
 use rpm_outside::Disk;
 use std::alloc::Global;
 use std::collections::{BTreeMap, BTreeSet};
@@ -147,7 +147,7 @@ fn drop_each<D: Disk>(
     let mut left = rows.len();
     while left > 0 {
         left -= 1;
-        change.drop_row(alloc, disk, &mut starts, row_ref(rows, left))?;
+        change.drop_row(alloc, disk, &mut starts, rows.row(left))?;
     }
     Ok(())
 }

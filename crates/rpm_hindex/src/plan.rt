@@ -9,7 +9,7 @@ use crate::faults::{PrepareFault, RewriteFault};
 use crate::image::{Image, image_of};
 use crate::kept_rows::push_chain;
 use crate::piece::Piece;
-use crate::rows::{Rows, row_ref};
+use crate::rows::Rows;
 use rpm_outside::{Disk, unit_of_words};
 use std::alloc::{AllocError, Global};
 use std::collections::{BTreeMap, BTreeSet};
@@ -59,7 +59,7 @@ pub fn add_rows<D: Disk>(disk: &mut D, change: &mut Change, rows: &Rows) -> Resu
     ensures reads { ReadsOr D.Disk Idx (16 * length rows.now) (result ≡ Err PrepareFault.DiskFault) disk.old disk.new }
 {
     for i in 0..rows.len() {
-        change.add_row(disk, row_ref(rows, i))?;
+        change.add_row(disk, rows.row(i))?;
     }
     Ok(())
 }

@@ -122,7 +122,8 @@ impl Hindex {
         self.prepare_within(alloc, disk, drops, adds, UNITS)
     }
 
-    /// Works out a change of the index, as `prepare_owned` does, of a copy of the added rows.
+    /// Works out a change of the index, as `prepare_owned` does, of a copy of the added rows. It is for other
+    /// programs: of the crates here the tests alone call it.
     ///
     /// # Errors
     ///

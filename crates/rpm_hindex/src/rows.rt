@@ -2,7 +2,7 @@
 
 ghost use Rattle.std.specs.Prelude.{◌≡◌, ◌≤◌, ◌<◌, ◌^◌, ◌++◌, ◌∷◌, [], length, IfOk, OnOk, OnErr};
 ghost use Rattle.rpm_hindex.specs.Prelude.{live_of, Row, row_nth};
-ghost use Rattle.rpm_hindex.specs.inner.Packed.{joined};
+ghost use Rattle.rpm_hindex.specs.inner.Packed.{rows_in_pieces};
 
 use crate::piece::{MOST, Piece, RowRef, row_in_piece};
 use crate::records::record_units;
@@ -38,9 +38,9 @@ impl Model for Rows {
 
     ghost Value = { List Row };
 
-    ghost use Rattle.rpm_hindex.specs.inner.Packed.{ArePieces, joined};
+    ghost use Rattle.rpm_hindex.specs.inner.Packed.{ArePieces, rows_in_pieces};
 
-    ghost view = { λ s. joined s.full.items s.last };
+    ghost view = { λ s. rows_in_pieces s.full.items s.last };
 
     ghost invariant = { λ s. ArePieces s.full.items s.last s.live };
 }
@@ -203,20 +203,10 @@ impl Rows {
 
     /// The pieces that are full, and the last one.
     pub(crate) fn into_pieces(self) -> (Vec<Piece>, Piece)
-        ensures { joined result.0.items result.1 ≡ self }
+        ensures { rows_in_pieces result.0.items result.1 ≡ self }
     {
         (self.full, self.last)
     }
-}
-
-/// Row i of these.
-pub fn row_ref(rows: &Rows, i: usize) -> RowRef<'_>
-    requires { i < length rows.now }
-    ensures row { (record { kind = result.kind; key = result.key.now; number = result.number; place = result.place }) ≡ row_nth rows.now i }
-    ensures kind { result.kind < 16 }
-    ensures short { length result.key.now < 2 ^ 28 }
-{
-    rows.row(i)
 }
 
 /// The same rows once more.

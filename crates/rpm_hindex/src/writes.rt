@@ -143,7 +143,8 @@ impl Hindex {
         Ok(())
     }
 
-    /// Writes an index of these rows from scratch, as `rewrite_owned` does, of a copy of the rows.
+    /// Writes an index of these rows from scratch, as `rewrite_owned` does, of a copy of the rows. It is for other programs: of
+    /// the crates here the tests alone call it.
     ///
     /// # Errors
     ///

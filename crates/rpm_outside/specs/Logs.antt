@@ -20,13 +20,9 @@ pub data LogState : Type 0 where
   Malformed : ℕ → LogState
   Open : List Entry → LogState
 
--- whether a byte is zero
-abbrev pub is_zero : ℕ → Bool
-is_zero b = b == 0
-
 -- a unit of zeros
 abbrev pub is_blank_unit : List ℕ → Bool
-is_blank_unit unit = list_all is_zero unit
+is_blank_unit unit = list_all (λ b. b == 0) unit
 
 -- a commit record is `RpmL`, version 1, the number of entries, and the last unit, which the log has
 unfoldable pub is_commit_record : ℕ → List ℕ → Bool

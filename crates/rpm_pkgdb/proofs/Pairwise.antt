@@ -1,6 +1,6 @@
 -- Nothing is wrong with a table exactly where each slot is right by itself and any two used ones are apart.
 use Rattle.std.proofs.Common.{◌≡◌, inl, inr, ℕ, zero, suc, ◌+◌, ◌-◌, ◌<◌, List, [], ◌∷◌, length, take, map, true, false, Option, Some, None, refl, sym, ap, ◌∙◌, subst, arith, codes}
-use Rattle.rpm_pkgdb.proofs.Vocabulary.{AreSlotsApart, AreSound, begins_with_word, blank, damage_at, end_of, damage_of_slot, first, free, has_number, is_used, IsPlaced, list_any}
+use Rattle.rpm_pkgdb.proofs.Vocabulary.{AreSlotsApart, AreSound, begins_with_word, blank, damage_at, end_of, damage_of_slot, first_from, free, has_number, is_used, IsPlaced, list_any}
 use Rattle.rpm_pkgdb.proofs.Vocabulary.{slots_meet, option_map, option_or, own_reason, range_with_len, shared_reason, Slot, slot_at, slot_fault, slot_of, slots_in}
 use Rattle.rpm_pkgdb.proofs.Vocabulary.{table_fault, table_is_first, unit_at, Units, used_reason}
 use Rattle.std.proofs.lemmas.List.{get_or-take, get_or_past, length-take}
@@ -11,23 +11,23 @@ use Rattle.rpm_pkgdb.proofs.Sound.{placed, fresh_number, fresh_blocks, no_own, n
 
 -- ---- the first of some faults
 
-first_none : {X : Type 0} (f : ℕ → Option X) (a n : ℕ) → first (map f (range_with_len a n)) ≡ None → (k : ℕ) → k < n → f (a + k) ≡ None
+first_none : {X : Type 0} (f : ℕ → Option X) (a n : ℕ) → first_from f a n ≡ None → (k : ℕ) → k < n → f (a + k) ≡ None
 first_none f a zero none k below = absurd (omega arith)
 first_none f a (suc n) none k below = by_head (f a) refl none (λ rest later. ap f (omega arith) ∙ first_none f (a + 1) n rest (k - 1) (omega arith))
   where
-    by_head : (o : Option _) → f a ≡ o → first (o ∷ map f (range_with_len (a + 1) n)) ≡ None
-        → (first (map f (range_with_len (a + 1) n)) ≡ None → 0 < k → f (a + k) ≡ None) → f (a + k) ≡ None
+    by_head : (o : Option _) → f a ≡ o → option_or o (first_from f (a + 1) n) ≡ None
+        → (first_from f (a + 1) n ≡ None → 0 < k → f (a + k) ≡ None) → f (a + k) ≡ None
     by_head (Some x) is none again = absurd cc
     by_head None is none again = elim (cases_lt 0 k) [
       | inl later ↦ again none later
       | inr here ↦ ap f (omega arith) ∙ is
     ]
 
-none_first : {X : Type 0} (f : ℕ → Option X) (a n : ℕ) → ((k : ℕ) → k < n → f (a + k) ≡ None) → first (map f (range_with_len a n)) ≡ None
+none_first : {X : Type 0} (f : ℕ → Option X) (a n : ℕ) → ((k : ℕ) → k < n → f (a + k) ≡ None) → first_from f a n ≡ None
 none_first f a zero each = refl
 none_first f a (suc n) each =
     let here : f a ≡ None = ap f (omega arith) ∙ each 0 (omega arith) in
-    ap (λ (o : Option _). first (o ∷ map f (range_with_len (a + 1) n))) here
+    ap (λ (o : Option _). option_or o (first_from f (a + 1) n)) here
     ∙ none_first f (a + 1) n (λ k below. ap f (omega arith) ∙ each (suc k) (omega arith))
 
 -- ---- the slots of units

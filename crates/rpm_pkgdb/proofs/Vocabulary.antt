@@ -28,7 +28,7 @@ unfoldable pub use Rattle.rpm_pkgdb.specs.Checksums.{adler, checksum_holds, sums
 pub use Rattle.rpm_pkgdb.specs.Costs.{opening_cost}
 pub use Rattle.rpm_pkgdb.specs.laws.Parts.{head_cost}
 pub use Rattle.rpm_pkgdb.specs.Damages.{damage_at, slot_fault, used_reason}
-pub use Rattle.rpm_pkgdb.specs.laws.Runs.{first}
+pub use Rattle.rpm_pkgdb.specs.laws.Runs.{first_from}
 unfoldable pub use Rattle.rpm_pkgdb.specs.Damages.{head_reason, own_reason, shared_reason, slot_units, table_fault}
 unfoldable pub use Rattle.rpm_pkgdb.specs.laws.Runs.{damage_of_slot}
 pub use Rattle.rpm_pkgdb.specs.Frame.{IsWritten, pkg, Quiet, CrashLeavesFile}

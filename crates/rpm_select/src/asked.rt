@@ -5,31 +5,24 @@ ghost use Rattle.rpm_select.specs.Prelude.{base_name, cut_text, Installtid, is_b
 
 use crate::rows::is_slash_first;
 use crate::selection::Selection;
-use rpm_tags::Kind;
+use rpm_tags::{Key, Kind};
 use std::alloc::{AllocError, Global};
 use std::marker::Model;
-
-#[derive(Drop)]
-enum KeyBytes<'a> {
-    Text(&'a [u8]),
-    Number([u8; 8]),
-}
 
 /// A key of a kind. Contracts see the kind and the key's bytes.
 #[derive(Drop)]
 pub struct Asked<'a> {
     kind: Kind,
-    key: KeyBytes<'a>,
+    key: Key<'a>,
 }
 
 impl<'a> Model for Asked<'a> {
     ghost use Rattle.std.specs.Prelude.{List, ℕ};
     ghost use Rattle.rpm_tags.specs.declared.kind.Kind.{Kind};
-    ghost use Rattle.rpm_select.specs.inner.Asking.{key_bytes};
 
     ghost Value = { Kind × List ℕ };
 
-    ghost view = { λ s. (s.kind, key_bytes s.key) };
+    ghost view = { λ s. (s.kind, s.key) };
 }
 
 impl<'a> Asked<'a> {
@@ -38,7 +31,7 @@ impl<'a> Asked<'a> {
     {
         Asked {
             kind,
-            key: KeyBytes::Text(text),
+            key: Key::text(text),
         }
     }
 
@@ -47,7 +40,7 @@ impl<'a> Asked<'a> {
     {
         Asked {
             kind: Kind::Installtid,
-            key: KeyBytes::Number(u64::from(number).to_be_bytes()),
+            key: Key::number(u64::from(number)),
         }
     }
 
@@ -60,10 +53,7 @@ impl<'a> Asked<'a> {
     pub fn bytes(&self) -> &[u8]
         ensures { result.now ≡ self.now.1 }
     {
-        match &self.key {
-            KeyBytes::Text(text) => text,
-            KeyBytes::Number(bytes) => bytes,
-        }
+        self.key.bytes()
     }
 }
 

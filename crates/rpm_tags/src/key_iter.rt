@@ -28,7 +28,8 @@ impl<'a> Model for Key<'a> {
 }
 
 impl<'a> Key<'a> {
-    fn text(text: &'a [u8]) -> Key<'a>
+    /// A text's key.
+    pub fn text(text: &'a [u8]) -> Key<'a>
         ensures { result ≡ text.now }
     {
         Key {
@@ -36,7 +37,8 @@ impl<'a> Key<'a> {
         }
     }
 
-    fn number(number: u64) -> Key<'a>
+    /// A number's key.
+    pub fn number(number: u64) -> Key<'a>
         ensures { result ≡ number_key number }
     {
         Key {

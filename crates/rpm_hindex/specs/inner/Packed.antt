@@ -2,6 +2,7 @@
 use Rattle.std.specs.Prelude.{◌≡◌, ℕ, ◌+◌, ◌≤◌, ◌<◌, ◌^◌, List, [], ◌++◌, take, drop, map, length, reverse, slice_index_or}
 use Rattle.std.specs.List.{flat_map}
 use Rattle.rpm_hindex.specs.declared.piece.PackedHead.{PackedHead}
+use Rattle.rpm_hindex.specs.declared.rows.TheConstants.{FULL}
 use Rattle.rpm_hindex.specs.Rows.{Row}
 use Rattle.rpm_hindex.specs.Sizes.{live_of}
 
@@ -28,16 +29,16 @@ pub record AreKeysPacked (heads : List PackedHead) (keys : List ℕ) (live : ℕ
 -- ---- rows in pieces
 
 -- the rows of these pieces, and after them those of the last one
-abbrev pub joined : List (List Row) → List Row → List Row
-joined full last = flat_map (λ (rows : List Row). rows) full ++ last
+abbrev pub rows_in_pieces : List (List Row) → List Row → List Row
+rows_in_pieces full last = flat_map (λ (rows : List Row). rows) full ++ last
 
 -- the rows of pieces of which the last comes first
 abbrev pub left_rows : List (List Row) → List Row
 left_rows pieces = flat_map (λ (rows : List Row). rows) (reverse pieces)
 
--- each piece but the last has 16384 rows
+-- each piece but the last is full
 pub record ArePieces (full : List (List Row)) (last : List Row) (live : ℕ) : Type 0 where
-  pub each : (i : ℕ) → i < length full → length (slice_index_or full i []) ≡ 16384
-  pub units : live ≡ live_of (joined full last)
+  pub each : (i : ℕ) → i < length full → length (slice_index_or full i []) ≡ FULL
+  pub units : live ≡ live_of (rows_in_pieces full last)
   pub most : live ≤ 2 ^ 60
-  pub count : length (joined full last) ≤ live
+  pub count : length (rows_in_pieces full last) ≤ live

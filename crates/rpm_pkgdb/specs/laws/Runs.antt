@@ -24,11 +24,16 @@ pub option_or-assoc : {X : Type 0} (a b c : Option X) → option_or (option_or a
 option_or-assoc None b c = refl
 option_or-assoc (Some x) b c = refl
 
--- the first fault of a list
-abbrev pub first : {X : Type 0} → List (Option X) → Option X
-first [] = None
-first (None ∷ xs) = first xs
-first (Some x ∷ xs) = Some x
+-- the first of the values at so many places, from one on
+abbrev pub first_from : {X : Type 0} → (ℕ → Option X) → ℕ → ℕ → Option X
+first_from f a zero = None
+first_from f a (suc n) = option_or (f a) (first_from f (a + 1) n)
+
+-- values that stand one place further on
+first_next : {X : Type 0} (f g : ℕ → Option X) → ((k : ℕ) → f (k + 1) ≡ g k) → (a n : ℕ) → first_from f (a + 1) n ≡ first_from g a n
+first_next f g same a zero = refl
+first_next f g same a (suc n) =
+    ap (λ (o : Option _). option_or o (first_from f (a + 1 + 1) n)) (same a) ∙ ap (λ (o : Option _). option_or (g a) o) (first_next f g same (a + 1) n)
 
 module _ (pages units : ℕ) where
   abbrev pub run : List Slot → Units → Option Damage
@@ -47,31 +52,22 @@ module _ (pages units : ℕ) where
       ∙ sym (option_or-assoc (slot_fault pages units earlier u) (run (earlier ++ slot_of u ∷ []) us)
       (run (earlier ++ slot_of u ∷ map slot_of us) vs))
 
-  -- it is the first fault of all places
-  first_cons : {X : Type 0} (x : Option X) (xs : List (Option X)) → first (x ∷ xs) ≡ option_or x (first xs)
-  first_cons None xs = refl
-  first_cons (Some x) xs = refl
-
   abbrev at : List Slot → Units → ℕ → Option Damage
   at earlier us k = slot_fault pages units (earlier ++ slots_in (take k us)) (unit_at us k)
 
-  first_is_run : (earlier : List Slot) (us : Units) → first (map (at earlier us) (range_with_len 0 (length us))) ≡ run earlier us
+  -- it is the first fault of all places
+  first_is_run : (earlier : List Slot) (us : Units) → first_from (at earlier us) 0 (length us) ≡ run earlier us
   unfolding slots_in
   first_is_run earlier [] = refl
   first_is_run earlier (u ∷ us) =
       let here : at earlier (u ∷ us) 0 ≡ slot_fault pages units earlier u = ap
       (λ (e : List Slot). slot_fault pages units e u) (append-nil earlier) in
-      let next : map (at earlier (u ∷ us)) (range_with_len 1 (length us))
-      ≡ map (at (earlier ++ slot_of u ∷ []) us) (range_with_len 0 (length us)) =
-      range_next (at earlier (u ∷ us)) 0 (length us)
-      ∙ same_map (λ (k : ℕ). at earlier (u ∷ us) (k + 1)) (at (earlier ++ slot_of u ∷ []) us)
+      let next = first_next (at earlier (u ∷ us)) (at (earlier ++ slot_of u ∷ []) us)
       (λ k. ap (at earlier (u ∷ us)) (add-one k) ∙ ap (λ (e : List Slot). slot_fault pages units e (unit_at us k))
-      (sym (append_assoc earlier (slot_of u ∷ []) (map slot_of (take k us))))) (range_with_len 0 (length us)) in
-      first_cons (at earlier (u ∷ us) 0) (map (at earlier (u ∷ us)) (range_with_len 1 (length us)))
-      ∙ ap (λ (x : Option Damage). option_or x (first (map (at earlier (u ∷ us)) (range_with_len 1 (length us))))) here
-      ∙ ap (λ (xs : List (Option Damage)). option_or (slot_fault pages units earlier u) (first xs)) next
+      (sym (append_assoc earlier (slot_of u ∷ []) (map slot_of (take k us))))) 0 (length us) in
+      ap (λ (x : Option Damage). option_or x (first_from (at earlier (u ∷ us)) 1 (length us))) here
       ∙ ap (λ (r : Option Damage). option_or (slot_fault pages units earlier u) r)
-      (first_is_run (earlier ++ slot_of u ∷ []) us)
+      (next ∙ first_is_run (earlier ++ slot_of u ∷ []) us)
 
   pub table_is_run : (us : Units) → table_fault pages units us ≡ run [] us
   unfolding table_fault
@@ -81,6 +77,6 @@ module _ (pages units : ℕ) where
   unfoldable pub damage_of_slot : Units → ℕ → Option Damage
   damage_of_slot slots k = slot_fault pages units (slots_in (take k slots)) (unit_at slots k)
 
-  pub table_is_first : (us : Units) → first (map (damage_of_slot us) (range_with_len 0 (length us))) ≡ table_fault pages units us
+  pub table_is_first : (us : Units) → first_from (damage_of_slot us) 0 (length us) ≡ table_fault pages units us
   unfolding table_fault damage_of_slot
   table_is_first us = first_is_run [] us

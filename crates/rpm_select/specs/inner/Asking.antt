@@ -6,14 +6,7 @@ use Rattle.rpm_tags.specs.declared.kind.Kind.{Kind}
 use Rattle.rpm_tags.specs.declared.kind.Kind.TheVariants as kind
 use Rattle.rpm_tags.specs.Kinds.{code_of}
 use Rattle.rpm_hindex.specs.Rows.{Row}
-use Rattle.rpm_select.specs.declared.asked.KeyBytes.{KeyBytes}
-use Rattle.rpm_select.specs.declared.asked.KeyBytes.TheVariants as bytes
 use Rattle.rpm_select.specs.Reach.{is_in}
-
--- the bytes of a key
-abbrev pub key_bytes : KeyBytes → List ℕ
-key_bytes (bytes.Text text) = text.now
-key_bytes (bytes.Number digits) = digits
 
 -- a byte is this one
 abbrev pub is_byte : ℕ → ℕ → Bool

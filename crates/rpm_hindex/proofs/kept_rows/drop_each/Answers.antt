@@ -99,7 +99,7 @@ loop-left-preserved g c =
           (of f l.change.extent l.change) (of f l.change.extent c.drop_row.new.self)) same
           (subst (λ (r : Row). IsWellFormed l.change.extent.buckets (g.D.Disk.files l.disk).idx → HasLess (r ∷ [])
           (of (g.D.Disk.files l.disk) l.change.extent l.change) (of (g.D.Disk.files l.disk) l.change.extent c.drop_row.new.self))
-          c.row_ref.ensures.row (c.in_ok-drop_row.ensures.dropped told).less) in
+          c.row.ensures.row (c.in_ok-drop_row.ensures.dropped told).less) in
           let there = subst (λ (e : Extent). IsWellFormed e.buckets file.idx → HasLess (row_nth rows i ∷ []) (of file e l.change)
           (of file e c.drop_row.new.self)) l.invariant.extent here in
           subst (λ (rs : List Row). HasLess rs (of file first.extent first) (of file first.extent c.drop_row.new.self)) (sym (rows_from rows i l.left lt next))
@@ -111,7 +111,7 @@ loop-left-preserved g c =
           (index_here (g.D.Disk.files l.disk) (g.D.Disk.files c.args.disk.now) l.change.extent first.extent
           ((l.invariant.looks.untouched told).same) l.invariant.extent)
           (subst (λ (r : Row). HasNoFault (index_in l.change.extent.buckets (g.D.Disk.files l.disk).idx)
-          → HasGone (r ∷ []) l.change last (index_in l.change.extent.buckets (g.D.Disk.files l.disk).idx)) c.row_ref.ensures.row
+          → HasGone (r ∷ []) l.change last (index_in l.change.extent.buckets (g.D.Disk.files l.disk).idx)) c.row.ensures.row
           (c.in_ok-drop_row.ensures.dropped told).gone) in
           let x : Index = index_in first.extent.buckets (g.D.Disk.files c.args.disk.now).idx in
           subst (λ (rs : List Row). HasGone rs first last x) (sym (rows_from rows i l.left lt next))
@@ -127,7 +127,7 @@ loop-left-preserved g c =
       cost = λ told whole. chain_more c.args.change.now.extent.buckets (g.D.Disk.files c.args.disk.now).idx whole c.requires.go.some rows i l.left _ _ _ lt next
           (l.invariant.cost told whole)
           (cost_here (g.D.Disk.files l.disk) (g.D.Disk.files c.args.disk.now) l.change.extent c.args.change.now.extent _ (row_nth rows i) _ _
-          ((l.invariant.looks.untouched told).same) l.invariant.extent c.row_ref.ensures.row (c.in_ok-drop_row.ensures.cost told));
+          ((l.invariant.looks.untouched told).same) l.invariant.extent c.row.ensures.row (c.in_ok-drop_row.ensures.cost told));
       looks = looks_at_then _ Idx g.met.D.Disk.follows_trans _ _ _ l.invariant.looks c.drop_row.ensures.reads.looks;
       faults = omega (arith, l.invariant.faults, c.drop_row.ensures.reads.cause.later);
     }
@@ -143,7 +143,7 @@ returns-in_err-drop_row-clause-cost g c = λ told whole.
     let file = (g.D.Disk.files c.args.disk.now).idx in
     let more = chain_more B file whole c.requires.go.some rows i l.left _ _ _ lt next (l.invariant.cost told whole)
     (cost_here (g.D.Disk.files l.disk) (g.D.Disk.files c.args.disk.now) l.change.extent c.args.change.now.extent _ (row_nth rows i) _ _
-    ((l.invariant.looks.untouched told).same) l.invariant.extent c.row_ref.ensures.row (c.in_err-drop_row.ensures.cost told)) in
+    ((l.invariant.looks.untouched told).same) l.invariant.extent c.row.ensures.row (c.in_err-drop_row.ensures.cost told)) in
     omega (arith, more, chains_drop B file whole c.requires.go.some rows i)
 
 pub returns-in_err-drop_row-clause-refused : goal.returns-in_err-drop_row-clause-refused
@@ -163,7 +163,7 @@ returns-in_err-drop_row-clause-refused g c =
           (index_here (g.D.Disk.files l.disk) (g.D.Disk.files c.args.disk.now) l.change.extent first.extent
           ((l.invariant.looks.untouched told).same) l.invariant.extent)
           (subst (λ (r : Row). HasNoFault (index_in l.change.extent.buckets (g.D.Disk.files l.disk).idx)
-          → IsShort (r ∷ []) l.change (index_in l.change.extent.buckets (g.D.Disk.files l.disk).idx) c.in_err-drop_row.field-0.0) c.row_ref.ensures.row
+          → IsShort (r ∷ []) l.change (index_in l.change.extent.buckets (g.D.Disk.files l.disk).idx) c.in_err-drop_row.field-0.0) c.row.ensures.row
           fault.short) in
           short_before (row_nth rows i) (drop l.left rows) rows first l.change x
           (λ r. omega (arith, times_drop r rows i, ap (times r) (rows_from rows i l.left lt next)))

@@ -25,7 +25,7 @@ add_row-requires-clause-room g c =
     let i = c.loop-i.i in
     let rows = c.args.rows.now in
     let lt : i < length rows = omega (arith, c.loop-i-test.true, c.len-i-end.ensures) in
-    let size = ap (λ (r : Row). record_units (length r.key)) c.row_ref.ensures.row in
+    let size = ap (λ (r : Row). record_units (length r.key)) c.row.ensures.row in
     omega (
       arith,
       c.requires.room,
@@ -41,7 +41,7 @@ loop-i-preserved g c =
     let i = c.loop-i.i in
     let rows = c.args.rows.now in
     let lt : i < length rows = omega (arith, c.loop-i-test.true, c.len-i-end.ensures) in
-    let size = ap (λ (r : Row). record_units (length r.key)) c.row_ref.ensures.row in
+    let size = ap (λ (r : Row). record_units (length r.key)) c.row.ensures.row in
     record {
       go = c.in_ok-add_row.ensures.grows.go;
       extent = c.in_ok-add_row.ensures.grows.extent ∙ c.loop-i.invariant.extent;
@@ -53,7 +53,7 @@ loop-i-preserved g c =
           let more = subst (λ (f : Files). IsWhole c.loop-i.change.records c.loop-i.change.live (index_after c.loop-i.change f.idx)
           → AddsRows c.loop-i.change c.add_row.new.self f.idx (row_nth rows i ∷ [])) ((c.loop-i.invariant.looks.untouched told).same)
           (subst (λ (r : Row). IsWhole c.loop-i.change.records c.loop-i.change.live (index_after c.loop-i.change (g.D.Disk.files c.loop-i.disk).idx)
-          → AddsRows c.loop-i.change c.add_row.new.self (g.D.Disk.files c.loop-i.disk).idx (r ∷ [])) c.row_ref.ensures.row
+          → AddsRows c.loop-i.change c.add_row.new.self (g.D.Disk.files c.loop-i.disk).idx (r ∷ [])) c.row.ensures.row
           (c.in_ok-add_row.ensures.added told).rows) in
           subst (AddsRows c.args.change.now c.add_row.new.self file.idx) (sym (next_rows rows i lt)) (rows_then c.args.change.now c.loop-i.change
           c.add_row.new.self file.idx (take i rows) (row_nth rows i) (c.loop-i.invariant.adds told whole) more);

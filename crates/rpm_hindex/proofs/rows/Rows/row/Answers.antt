@@ -1,13 +1,13 @@
 use Rattle.std.proofs.Common.{◌≡◌, ℕ, ◌-◌, ◌<◌, ◌≤◌, ◌*◌, ◌/◌, ◌%◌, [], length, List, sym, ap, ◌∙◌, arith}
 use Rattle.std.proofs.lemmas.List.{get_or_default}
 use Rattle.rpm_hindex.proofs.Vocabulary.{Row, row_nth}
-use Rattle.rpm_hindex.proofs.Pieces.{length_joined, row_in_full, row_in_last}
+use Rattle.rpm_hindex.proofs.Pieces.{length_rows, row_in_full, row_in_last}
 use Rattle.rpm_hindex.proofs.rows.Rows.row.Goals as goal
 
 pub row_in_piece-requires-else-piece-len : goal.row_in_piece-requires-else-piece-len
 row_in_piece-requires-else-piece-len c =
     let v = c.self.inside in
-    let long = length_joined v.full.items v.last v.live c.self.invariant in
+    let long = length_rows v.full.items v.last v.live c.self.invariant in
     omega (arith, long, c.requires, c.len.ensures, c.len-else-piece-len.ensures, c.if-piece-len.false, ap (λ (rows : List Row). length rows) c.self.view_is)
 
 pub returns-then-piece-len-clause-row : goal.returns-then-piece-len-clause-row
