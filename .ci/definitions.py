@@ -35,8 +35,8 @@ IRREGULAR = set("begun built cut drawn fed found given held hidden kept laid lef
 
 HEAD = """# The definitions
 
-`.ci/definitions.py --write` makes this page of the files in `crates/*/specs`, and the merge gate checks that it is current. Files of `specs/laws/` hold what
-crates above cite, those of `specs/inner/` what a crate's own functions say: nobody has to believe either, and they aren't listed.
+`.ci/definitions.py --write` makes this page of the files in `crates/*/specs`, and the merge gate checks that it is current. Files of `specs/laws/` hold words
+of what crates above cite, those of `specs/inner/` what a crate's own functions say: nobody has to believe either, and they aren't listed.
 
 The definitions are computed, without the code, on small inputs: by `Fixtures.antt`, `Asking.antt` and `Defaults.antt` in `crates/rpm_print/proofs/`, and by
 `Fixtures.antt` in the `proofs/` of `rpm_qfparse`, `rpm_file` and `rpm_qfeval`.
@@ -146,8 +146,9 @@ def documents():
 
 
 def every():
-    """All definitions, those of specs/inner and specs/laws too."""
-    return [it for name in crates() for path in sorted((CRATES / name / "specs").rglob("*.antt")) for it in items(path).values() if it.kind in DEFINITIONS]
+    """All definitions, those of specs/inner, specs/laws and proofs/laws too."""
+    paths = [path for name in crates() for folder in ("specs", "proofs/laws") for path in sorted((CRATES / name / folder).rglob("*.antt"))]
+    return [it for path in paths for it in items(path).values() if it.kind in DEFINITIONS]
 
 
 def is_participle(it):

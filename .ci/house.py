@@ -1,7 +1,7 @@
 #!/usr/bin/env python3
 """How the names, definitions and lines of the tree keep house: .ci/house.py [--list ROW]
 
-Prints a table of what a tidy tree has little of. Definitions are those of crates/*/specs, tests aside, as .ci/definitions.py counts them. Each row has
+Prints a table of what a tidy tree has little of. Definitions are those of crates/*/specs and proofs/laws, tests aside, as .ci/definitions.py counts them. Each row has
 a word, and --list WORD prints what the row counts, one item a line. It needs Python 3 alone, and takes some seconds; it is no part of the gate.
 
 shared      names that definitions of two or more crates have
@@ -171,13 +171,10 @@ ROWS = (("names that definitions of two or more crates have", shared), ("those t
 def table():
     """The table."""
     made, source = numbers(), len(lines_in("src", ".rt"))
-    all_specs = files_below("specs", ".antt")
-    specs, laws = (sum(len(path.read_text(encoding="utf-8").splitlines()) for path in paths)
-                   for paths in (all_specs, [path for path in all_specs if "laws" in path.parts]))
+    specs, laws = (len(lines_in(folder, ".antt")) for folder in ("specs", "proofs/laws"))
     rows = [(f"{what} (`{find.__name__}`)", f"{len(list(find())):,}") for what, find in ROWS]
     rows.insert(4, ("their lines, and the steps from `run` to the last", f"{made['lines']:,}, {made['deep']}"))
-    rows += [("lines of specs/ without laws/, of laws/, and of src/", f"{specs - laws:,}, {laws:,}, {source:,}"),
-             ("specs/ to src/, without laws/ and with them", f"{(specs - laws) / source:.2f}, {specs / source:.2f}")]
+    rows += [("lines of specs/, of proofs/laws/, and of src/", f"{specs:,}, {laws:,}, {source:,}"), ("specs/ to src/", f"{specs / source:.2f}")]
     return "| | |\n|---|---|\n" + "\n".join(f"| {what} | {count} |" for what, count in rows)
 
 

@@ -15,11 +15,11 @@ from clauses import read_source, read_tree
 from specs import TOP, crates
 
 
-HEAD = ("| Crate | Code | Contracts | Clauses | Definitions, laws (`specs/`) | Proofs | Must-fail edits | Tests | Worked rows | Lines of tests and rows |\n"
-        "|---|---|---|---|---|---|---|---|---|---|\n")
+HEAD = ("| Crate | Code | Contracts | Clauses | Definitions | Laws | Proofs | Must-fail edits | Tests | Worked rows | Lines of tests and rows |\n"
+        "|---|---|---|---|---|---|---|---|---|---|---|\n")
 TABLE = re.compile(r"\| Crate \| Code \|.*?\n\| in all \|[^\n]*\n", re.S)
 SENTENCE = re.compile(r"The tree has [\d,]+ crates\b[^.]*\.")
-COUNTS = ("code", "contracts", "clauses", "specs", "proofs", "edits", "tests", "rows", "tried")
+COUNTS = ("code", "contracts", "clauses", "specs", "laws", "proofs", "edits", "tests", "rows", "tried")
 
 
 def lines_below(folder, ending):
@@ -50,12 +50,14 @@ def row_of(name):
     is_code = not name.endswith("_tests") and name not in ("rpm_rows", "rpm_row_files")
     items = read_tree(TOP, [name], "src", ".rt", read_source).values()
     code, contracts = split_up(source) if is_code else (0, 0)
+    laws = len(lines_below(folder / "proofs" / "laws", ".antt"))
     return {
         "code": code,
         "contracts": contracts,
         "clauses": sum(not key.startswith("ghost") for item in items for key in item.clauses) if is_code else 0,
         "specs": len(lines_below(folder / "specs", ".antt")),
-        "proofs": len(lines_below(folder / "proofs", ".antt")),
+        "laws": laws,
+        "proofs": len(lines_below(folder / "proofs", ".antt")) - laws,
         "edits": len(list((folder / "must-fail").glob("*.edit"))),
         "tests": sum(line.strip() == "#[test]" for line in source),
         "rows": sum(line.startswith("row ") for line in data),
@@ -69,7 +71,7 @@ def counted():
     total = {key: sum(row[key] for _, row in rows) for key in COUNTS}
     table = HEAD + "".join(f"| {name} | " + " | ".join(f"{row[key]:,}" for key in COUNTS) + " |\n" for name, row in rows + [("in all", total)])
     sentence = (f"The tree has {len(rows)} crates: {total['code']:,} lines of code, {total['contracts']:,} of contracts with {total['clauses']:,} clauses,\n"
-                f"{total['specs']:,} of definitions and laws, {total['proofs']:,} of proofs, "
+                f"{total['specs']:,} of definitions, {total['laws']:,} of laws, {total['proofs']:,} of proofs, "
                 f"{total['edits']:,} must-fail edits, {total['tests']:,} tests and {total['rows']:,} worked rows.")
     return table, sentence
 

@@ -5,3 +5,4 @@ pub mod Listed
 pub mod Parts
 pub mod Same
 pub mod Vocabulary
+pub mod laws

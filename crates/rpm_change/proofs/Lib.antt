@@ -11,3 +11,4 @@ pub mod Stops
 pub mod Turned
 pub mod Vocabulary
 pub mod Ready
+pub mod laws

@@ -11,8 +11,8 @@ use Rattle.rpm_effects.specs.Lines.{Fails}
 use Rattle.rpm_effects.specs.Steps.{Bearer, ToErr, course_of_failure}
 use Rattle.rpm_effects.specs.Shown.{EndedOnErr}
 use Rattle.rpm_change.specs.Progress.{ProgressInBoth}
-use Rattle.rpm_change.specs.laws.Going.{line_by}
-use Rattle.rpm_change.specs.laws.Leaving.{none_by, unchanged}
+use Rattle.rpm_change.proofs.laws.Going.{line_by}
+use Rattle.rpm_change.proofs.laws.Leaving.{none_by, unchanged}
 
 module _ {D : Type 0} (d : disk.Ghosts D) (stays : (x : D) → d.follows x x) {T : Type 0} {at : D} {db : Database}
     (ready : IsReady d at db) where

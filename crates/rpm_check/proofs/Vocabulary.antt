@@ -35,12 +35,12 @@ unfoldable pub use Rattle.rpm_check.specs.inner.Offers.{IsOffered}
 pub use Rattle.rpm_select.specs.Picks.{is_some_of}
 pub use Rattle.rpm_check.specs.inner.Rounds.{IsFirst, unmet_at}
 pub use Rattle.rpm_check.specs.inner.Runs.{is_of_standing, IsRunOf}
-pub use Rattle.rpm_db.specs.laws.Above.{all_above_zero, both_true, is_below, next_above, none_below, none_is, nothing_above}
+pub use Rattle.rpm_db.proofs.laws.Above.{all_above_zero, both_true, is_below, next_above, none_below, none_is, nothing_above}
 pub use Rattle.rpm_db.specs.Database.{Database, holds, IsNext, Keeps, KeepsIndex}
 pub use Rattle.rpm_db.specs.Database.{store_of}
-pub use Rattle.rpm_db.specs.laws.FromOne.{from_one}
-pub use Rattle.rpm_db.specs.laws.Own.{header-own}
-pub use Rattle.rpm_db.specs.laws.PackageLaws.{is_there}
+pub use Rattle.rpm_db.proofs.laws.FromOne.{from_one}
+pub use Rattle.rpm_db.proofs.laws.Own.{header-own}
+pub use Rattle.rpm_db.proofs.laws.PackageLaws.{is_there}
 pub use Rattle.rpm_db.specs.State.{above, Bad, Good, Package, package_of, packages}
 pub use Rattle.rpm_db.specs.laws.Parts.{read_as}
 pub use Rattle.rpm_graph.specs.Networks.{edge, HasEdge, IsEdgeBefore, IsNumberRising, Joins, Network}
@@ -62,9 +62,9 @@ pub use Rattle.rpm_select.specs.declared.picked.Picked.{Picked}
 pub use Rattle.rpm_select.specs.declared.picked.PickFault.{PickFault}
 pub use Rattle.rpm_select.specs.declared.selection.Selection.{Selection}
 pub use Rattle.rpm_select.specs.declared.selection.Selection.TheVariants.{Provides}
-pub use Rattle.rpm_select.specs.laws.Among.{among, not_among}
-pub use Rattle.rpm_select.specs.laws.Keyed.{or_cases, or_left, or_right}
-pub use Rattle.rpm_select.specs.laws.Rising.{AreAbove, next_picked, picks_from_one, Rises, rises, same_members}
+pub use Rattle.rpm_select.proofs.laws.Among.{among, not_among}
+pub use Rattle.rpm_select.proofs.laws.Keyed.{or_cases, or_left, or_right}
+pub use Rattle.rpm_select.proofs.laws.Rising.{AreAbove, next_picked, picks_from_one, Rises, rises, same_members}
 pub use Rattle.rpm_tags.specs.declared.numbers.TheConstants.{REQUIREFLAGS, REQUIRENAME, REQUIREVERSION}
 pub use Rattle.rpm_tags.specs.Value.{numbers_in, texts_in}
 pub use Rattle.rpm_tags.specs.Wanted.{beside, has_file, list_or_empty, Need}

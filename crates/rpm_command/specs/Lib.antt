@@ -4,4 +4,3 @@ pub mod Prelude
 pub mod Tasks
 pub mod Texts
 pub mod inner
-pub mod laws

@@ -16,15 +16,15 @@ use Rattle.rpm_change.specs.Progress.{ProgressInBoth}
 use Rattle.rpm_change.specs.Reaches.{all_added}
 use Rattle.rpm_db.specs.Lawful.{IsWholeIndex}
 use Rattle.rpm_db.specs.Reaches.{Gains}
-use Rattle.rpm_commit.specs.laws.Brokens.{done_unbroken, found_unmade, halt_blames, halt_unbroken, open_unbroken}
-use Rattle.rpm_commit.specs.laws.Emptied.{done_unheld, empty_unopened, empty_stopped, empty_done}
+use Rattle.rpm_commit.proofs.laws.Brokens.{done_unbroken, found_unmade, halt_blames, halt_unbroken, open_unbroken}
+use Rattle.rpm_commit.proofs.laws.Emptied.{done_unheld, empty_unopened, empty_stopped, empty_done}
 use Rattle.rpm_commit.proofs.FileReach.{reached_changed, reached_renewed}
 use Rattle.rpm_commit.proofs.Halting.{halts, later_cause, made_unbroken, opening_kinds, same_halt}
-use Rattle.rpm_commit.specs.laws.Limited.{limits_done, limits_halt, limits_unopened, made_stops}
-use Rattle.rpm_commit.specs.laws.Unmade.{through_none}
-use Rattle.rpm_commit.specs.laws.Works.{halt_stopped, if_found, plain_stops, state-in_file, worked_by}
-use Rattle.rpm_print.specs.laws.Verified.{no_entry, from_one}
-use Rattle.rpm_commit.specs.laws.ByEnding.{by_opening}
+use Rattle.rpm_commit.proofs.laws.Limited.{limits_done, limits_halt, limits_unopened, made_stops}
+use Rattle.rpm_commit.proofs.laws.Unmade.{through_none}
+use Rattle.rpm_commit.proofs.laws.Works.{halt_stopped, if_found, plain_stops, state-in_file, worked_by}
+use Rattle.rpm_print.proofs.laws.Verified.{no_entry, from_one}
+use Rattle.rpm_commit.proofs.laws.ByEnding.{by_opening}
 use Rattle.rpm_outside.specs.declared.disk.Disk as disk
 use Rattle.rpm_effects.specs.declared.tally.Halt.TheVariants as halt
 use Rattle.rpm_effects.specs.declared.answer.Why.TheVariants as why

@@ -5,10 +5,10 @@ use Rattle.rpm_outside.specs.declared.disk.Disk as disk
 use Rattle.rpm_commit.proofs.Vocabulary.{TransactionEnding, File, Files, images, is_done, is_halt, IsShut, IsSound, KeepsBelow, CrashLeaves, Log, log_state, OnlyReadsFile}
 use Rattle.rpm_commit.proofs.Vocabulary.{reopened_files, ReopensAs, started, unless_starved, without_log, Why}
 use Rattle.rpm_effects.specs.declared.answer.Why.TheVariants as why
-use Rattle.rpm_commit.specs.laws.ByEnding.{by_starved}
-use Rattle.rpm_commit.specs.laws.Starved.{starved_is}
-use Rattle.rpm_commit.specs.laws.Recovered.{leaves_on}
-use Rattle.rpm_commit.specs.laws.Standing.{shut_stands}
+use Rattle.rpm_commit.proofs.laws.ByEnding.{by_starved}
+use Rattle.rpm_commit.proofs.laws.Starved.{starved_is}
+use Rattle.rpm_commit.proofs.laws.Recovered.{leaves_on}
+use Rattle.rpm_commit.proofs.laws.Standing.{shut_stands}
 
 pub halt_undone : (w : Why) → is_halt w ≡ true → is_done w ≡ true → ⊥
 halt_undone why.Done halts is = cc

@@ -7,7 +7,7 @@ use Rattle.std.proofs.lemmas.Bool.{cases_Bool}
 use Rattle.rpm_hindex.specs.Sizes as sizes
 use Rattle.rpm_change.specs.Reaches.{all_added, ChangesReach}
 use Rattle.rpm_db.specs.Reaches.{Gains}
-use Rattle.rpm_commit.specs.laws.Works.{if_found, opened}
+use Rattle.rpm_commit.proofs.laws.Works.{if_found, opened}
 
 -- ---- an index of no rows is the least
 

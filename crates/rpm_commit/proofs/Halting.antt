@@ -8,7 +8,7 @@ use Rattle.rpm_outside.specs.declared.shelf.Shelf as shelf
 use Rattle.rpm_outside.specs.declared.sink.Sink as sink
 use Rattle.rpm_effects.specs.declared.tally.Halt.TheVariants as halt
 use Rattle.rpm_effects.specs.declared.answer.Why.TheVariants as why
-use Rattle.rpm_commit.specs.laws.Emptied.{done_unheld}
+use Rattle.rpm_commit.proofs.laws.Emptied.{done_unheld}
 
 -- ---- the halt that an ending tells
 

@@ -5,3 +5,4 @@ mod Fitting
 mod Halting
 mod Transactions
 pub mod Vocabulary
+pub mod laws

@@ -9,17 +9,17 @@ use Rattle.rpm_commit.proofs.Vocabulary.{IsDatabaseMade, IsShut, IsUncommitted, 
 use Rattle.rpm_commit.proofs.Vocabulary.{is_rebuilt, MayBegin, AnswersChange, at_index, by_index, Outputs, ran, RecoverSays, reopened_files, ReopensAs}
 use Rattle.rpm_commit.proofs.Vocabulary.{ReopensAsOneOf, rows, RowsFit, Says, IsLawfulAndSameOr, State, state, Store, store, Tally, TaskParts, Through, Units}
 use Rattle.rpm_commit.proofs.Vocabulary.{units_for, units_needed, without_log, Why, why_of, with_file, WorkBy, WorkOnStore, Work}
-use Rattle.rpm_commit.specs.laws.Brokens.{done_unbroken}
-use Rattle.rpm_commit.specs.laws.ByEnding.{by_ends, by_uncommitted}
-use Rattle.rpm_effects.specs.laws.Reaching.{some_all}
-use Rattle.rpm_commit.specs.laws.Outcomes.{by_done_why, done_did, fault_done_why, is_done_why, lawful_ending, leaves_done, stopped_did}
+use Rattle.rpm_commit.proofs.laws.Brokens.{done_unbroken}
+use Rattle.rpm_commit.proofs.laws.ByEnding.{by_ends, by_uncommitted}
+use Rattle.rpm_effects.proofs.laws.Reaching.{some_all}
+use Rattle.rpm_commit.proofs.laws.Outcomes.{by_done_why, done_did, fault_done_why, is_done_why, lawful_ending, leaves_done, stopped_did}
 use Rattle.rpm_commit.proofs.Ends.{halt_undone}
 use Rattle.rpm_commit.proofs.Fitting.{limit_fits}
-use Rattle.rpm_commit.specs.laws.Limited.{none_done}
-use Rattle.rpm_commit.specs.laws.Recovered.{recovered_fits, recovered_sound, recovered_still}
-use Rattle.rpm_commit.specs.laws.Standing.{begins, if_ok, if_ok_at, lawful_store, may_begin, ok_is, shut_lawful, shut_stands, stands_lawful, usable_lawful}
-use Rattle.rpm_commit.specs.laws.Unmade.{still_one}
-use Rattle.rpm_group.specs.laws.KeptLogs.{sound_kept}
+use Rattle.rpm_commit.proofs.laws.Limited.{none_done}
+use Rattle.rpm_commit.proofs.laws.Recovered.{recovered_fits, recovered_sound, recovered_still}
+use Rattle.rpm_commit.proofs.laws.Standing.{begins, if_ok, if_ok_at, lawful_store, may_begin, ok_is, shut_lawful, shut_stands, stands_lawful, usable_lawful}
+use Rattle.rpm_commit.proofs.laws.Unmade.{still_one}
+use Rattle.rpm_group.proofs.laws.KeptLogs.{sound_kept}
 use Rattle.rpm_outside.specs.declared.disk.Disk as disk
 use Rattle.rpm_effects.specs.declared.answer.Why.TheVariants as why
 

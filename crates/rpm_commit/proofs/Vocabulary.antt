@@ -6,7 +6,7 @@ pub use Rattle.rpm_effects.specs.Hands.{Hand}
 pub use Rattle.rpm_change.specs.Importing.{import_list}
 pub use Rattle.rpm_commit.specs.Tasks.{max_headers}
 pub use Rattle.rpm_change.specs.Limits.{limit_of_command, limit_of_changes, is_spent, LimitsTurn}
-pub use Rattle.rpm_change.specs.laws.Single.{is_large}
+pub use Rattle.rpm_change.proofs.laws.Single.{is_large}
 pub use Rattle.rpm_change.specs.Limits.{next_stores, limit_of_change, MeetsLimit}
 pub use Rattle.rpm_db.specs.Reaches.{units_needed_after}
 pub use Rattle.rpm_change.specs.Reaches.{idx_reach, pkg_reach, ChangesReachAnew}
@@ -16,11 +16,11 @@ pub use Rattle.rpm_change.specs.Turns.{IsOfImporting}
 pub use Rattle.rpm_change.specs.Progress.{IsCurrent}
 pub use Rattle.rpm_effects.specs.declared.tally.Halt.{Halt}
 pub use Rattle.rpm_effects.specs.declared.tally.Tally.{Tally}
-pub use Rattle.rpm_effects.specs.laws.Courses.{none_gone}
+pub use Rattle.rpm_effects.proofs.laws.Courses.{none_gone}
 pub use Rattle.rpm_change.specs.inner.IndexLaws.{at_index, by_index}
-pub use Rattle.rpm_change.specs.laws.LimitLaws.{makes_small, never_bad_made}
-pub use Rattle.rpm_change.specs.laws.ReachLaws.{idx_more, pkg_more, reached_anew, reached_none}
-pub use Rattle.rpm_change.specs.laws.Stores.{stores_paged}
+pub use Rattle.rpm_change.proofs.laws.LimitLaws.{makes_small, never_bad_made}
+pub use Rattle.rpm_change.proofs.laws.ReachLaws.{idx_more, pkg_more, reached_anew, reached_none}
+pub use Rattle.rpm_change.proofs.laws.Stores.{stores_paged}
 pub use Rattle.rpm_commit.specs.Changing.{after, AllRowsFit, BadBy, ChangeProgress, EmptyBy, HasState, IsDatabaseMade}
 pub use Rattle.rpm_commit.specs.laws.Words.{ChangeProgressOnLog, ChangeProgressOn, ChangeProgressOnStore, is_rebuilt}
 pub use Rattle.rpm_commit.specs.Changing.{HasChanges, RowsFit}
@@ -44,12 +44,12 @@ pub use Rattle.rpm_db.specs.Database.{Database, holds, IsIndexed, IsNext, IsPage
 pub use Rattle.rpm_db.specs.Database.{store_of}
 pub use Rattle.rpm_db.specs.Lawful.{HasRows, IsLawful, Remade}
 pub use Rattle.rpm_db.specs.Openings.{must_rebuild, units_needed}
-pub use Rattle.rpm_db.specs.laws.PackageLaws.{is_there}
+pub use Rattle.rpm_db.proofs.laws.PackageLaws.{is_there}
 pub use Rattle.rpm_db.specs.Room.{next_store, RoomBecomes}
-pub use Rattle.rpm_db.specs.laws.RoomLaws.{made_paged}
+pub use Rattle.rpm_db.proofs.laws.RoomLaws.{made_paged}
 pub use Rattle.rpm_db.specs.laws.Parts.{rows_in}
 unfoldable pub use Rattle.rpm_db.specs.Rows.{rows}
-pub use Rattle.rpm_db.specs.laws.Running.{runs_none, runs_then}
+pub use Rattle.rpm_db.proofs.laws.Running.{runs_none, runs_then}
 pub use Rattle.rpm_db.specs.Runs.{SameLog}
 pub use Rattle.rpm_db.specs.State.{Package, State, state}
 unfoldable pub use Rattle.rpm_db.specs.State.{packages}
@@ -64,7 +64,7 @@ pub use Rattle.rpm_group.specs.Layers.{laid_files}
 pub use Rattle.rpm_group.specs.Loads.{IsSound}
 pub use Rattle.rpm_group.specs.Overlay.{overlay_below, overlay_held, overlay_read, overlay_starved}
 pub use Rattle.rpm_group.specs.Crashes.{KeepsLog, RecoverSays, ReopensAs, ReopensAsOneOf}
-pub use Rattle.rpm_group.specs.laws.KeptLogs.{recovered_kept}
+pub use Rattle.rpm_group.proofs.laws.KeptLogs.{recovered_kept}
 pub use Rattle.rpm_hindex.specs.Rows.{Row}
 pub use Rattle.rpm_hindex.specs.Sizes.{doubled_buckets, units_for}
 pub use Rattle.rpm_outside.specs.Buffered.{inner}
@@ -76,7 +76,7 @@ pub use Rattle.rpm_outside.specs.Shelves.{bytes_at}
 pub use Rattle.rpm_outside.specs.declared.buffered.Buffered.{Buffered}
 pub use Rattle.rpm_outside.specs.declared.disk.File.{File}
 pub use Rattle.rpm_outside.specs.declared.disk.File.TheVariants.{Log}
-pub use Rattle.rpm_outside.specs.laws.Moments.{leaves_then, leaves_weaker, started}
+pub use Rattle.rpm_outside.proofs.laws.Moments.{leaves_then, leaves_weaker, started}
 pub use Rattle.rpm_pkgdb.specs.Reaches.{store_end}
 pub use Rattle.rpm_pkgdb.specs.Store.{in_file, Store, store}
 pub use Rattle.rpm_pkgdb.specs.Written.{with_spare}

@@ -6,7 +6,7 @@ use Rattle.std.proofs.lemmas.List.{drop_all}
 use Rattle.rpm_db.proofs.Vocabulary.{AreInOrder, AreWithout, is_row_before, Row, row_nth, same_row, times, times-append, times_none}
 use Rattle.rpm_db.proofs.Vocabulary.{times_one}
 use Rattle.rpm_db.proofs.Ordered.{none_from, turned}
-use Rattle.rpm_hindex.specs.laws.RowLaws.{same_is}
+use Rattle.rpm_hindex.proofs.laws.RowLaws.{same_is}
 use Rattle.rpm_db.proofs.Shared.{times_from, times_rest}
 
 -- what was taken from each list so far: no row is in one of them and in the other, or still to come there

@@ -5,7 +5,7 @@ use Rattle.rpm_outside.specs.Files.{Units, Files, unit_at, blank}
 use Rattle.rpm_pkgdb.specs.Store.{Store}
 use Rattle.rpm_outside.specs.Words.{word}
 use Rattle.rpm_hindex.specs.State.{opened_state, sealed_generation, is_headed, is_in_order, is_ordered, is_current, buckets_of}
-use Rattle.rpm_outside.specs.laws.Moments.{leaves_weaker}
+use Rattle.rpm_outside.proofs.laws.Moments.{leaves_weaker}
 use Rattle.rpm_db.specs.Lawful.{Agrees, IsLawful, AreLawful, IsLawfulStill, IsIndexOf, Remade}
 use Rattle.rpm_db.specs.Runs.{ImageFrom}
 use Rattle.rpm_outside.specs.declared.disk.Disk as disk

@@ -38,3 +38,4 @@ pub mod Apart
 pub mod VerdictLaws
 pub mod Vocabulary
 pub mod LawfulLaws
+pub mod laws

@@ -13,7 +13,7 @@ use Rattle.std.proofs.lemmas.Cmp.{nat_cmp_total, nat_list_cmp_total, on_total, t
 use Rattle.std.proofs.lemmas.List.{get_or_default, get_or-drop, get_or-map, length-map, map-append, take_more}
 use Rattle.std.proofs.lemmas.List.Sorted.{IsPermutation-map, ranks_by, sorted_far, sum_by-IsPermutation}
 use Rattle.std.proofs.lemmas.Map.Text.{is_eq-slice_cmp}
-use Rattle.rpm_hindex.specs.laws.RowLaws.{same_is}
+use Rattle.rpm_hindex.proofs.laws.RowLaws.{same_is}
 
 row_total : IsTotalOrder row_cmp
 row_total =

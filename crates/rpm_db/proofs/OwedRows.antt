@@ -9,7 +9,7 @@ use Rattle.rpm_db.proofs.Vocabulary.{IsCurrentIndex, IsOrdered, live_of, nat_cmp
 use Rattle.rpm_db.proofs.Vocabulary.{generation_of, store_of, sealed_generation, sealed_in, IndexState, times-append, times_none, Units, units_for}
 use Rattle.rpm_db.proofs.Found.{current_in_order}
 use Rattle.rpm_db.proofs.Reached.{live_none}
-use Rattle.rpm_hindex.specs.laws.RowLaws.{live-append}
+use Rattle.rpm_hindex.proofs.laws.RowLaws.{live-append}
 
 -- one more change, which drops rows that are there
 pub balance_more : (owed : RowChange) (drops adds old mid new : List Row) → Balances owed old mid → HasChanged drops adds mid new

@@ -8,7 +8,7 @@ use Rattle.std.proofs.lemmas.Cmp.{nat_cmp_total}
 use Rattle.std.proofs.lemmas.List.{get_or-set_same}
 use Rattle.rpm_outside.specs.Files.{Units}
 use Rattle.rpm_outside.specs.declared.disk.Disk as disk
-use Rattle.rpm_pkgdb.specs.laws.BlobLaws.{get-blobs-frames}
+use Rattle.rpm_pkgdb.proofs.laws.BlobLaws.{get-blobs-frames}
 use Rattle.rpm_pkgdb.specs.Blobs.{blob_in, blobs, blocks_for, Frame, frames}
 use Rattle.rpm_pkgdb.specs.Checksums.{checksum_holds, checksums_hold}
 use Rattle.rpm_pkgdb.specs.Frame.{pkg}

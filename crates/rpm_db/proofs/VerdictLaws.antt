@@ -4,7 +4,7 @@ use Rattle.std.proofs.lemmas.Nat.{from_le_bytes-to_le_bytes_4}
 use Rattle.std.proofs.lemmas.List.{get_or-take, get_or-drop, length-take, take-append-le, take_all, drop-append-le, drop_all}
 use Rattle.rpm_outside.specs.Files.{blank, unit_at, Units, units_of}
 use Rattle.rpm_outside.specs.Words.{bytes_of_word, word}
-use Rattle.rpm_pkgdb.specs.laws.BlobLaws.{get-blobs-frames}
+use Rattle.rpm_pkgdb.proofs.laws.BlobLaws.{get-blobs-frames}
 use Rattle.rpm_pkgdb.specs.Blobs.{blob_in, blocks_at, blocks_for, Frame, frame_of, frames, is_framed, tail}
 use Rattle.rpm_pkgdb.specs.Checksums.{adler, checksum_holds, checksums_hold}
 use Rattle.rpm_pkgdb.specs.Framing.{framed_blob, head_of, padding, summed_bytes, tail_of}

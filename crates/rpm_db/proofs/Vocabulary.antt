@@ -1,12 +1,12 @@
 -- The words of proofs, from one place.
-pub use Rattle.rpm_db.specs.laws.Above.{all_above_zero, next_above, nothing_above}
+pub use Rattle.rpm_db.proofs.laws.Above.{all_above_zero, next_above, nothing_above}
 pub use Rattle.rpm_db.specs.Answers.{ReadAnswer}
 pub use Rattle.rpm_db.specs.Changed.{IsLeft, Makes}
 pub use Rattle.rpm_db.specs.Changes.{Add, apply, Change, changed_number, Erase, IsBetween, IsChangedStill, IsServing, next, Put, ReadsAtMost, Says}
 pub use Rattle.rpm_db.specs.Database.{Database, database_of, generation_of, has_failed, holds, IsConsistent, IsIndexed, IsCurrentIndex, IsNext}
 pub use Rattle.rpm_db.specs.Database.{KeepsUnits, store_of, without_index}
 pub use Rattle.rpm_db.specs.Frame.{Runs, StaysBetween}
-pub use Rattle.rpm_db.specs.laws.FromOne.{none_stored}
+pub use Rattle.rpm_db.proofs.laws.FromOne.{none_stored}
 pub use Rattle.rpm_db.specs.Gathering.{with_rows}
 pub use Rattle.rpm_db.specs.Gathering.{Balances, due, due_units, GatheredChange, Gathers, IsGathering, IsOrdered, no_row_changes, Owes, OwesOn}
 pub use Rattle.rpm_db.specs.Gathering.{resumed_database, sealed_in}
@@ -14,8 +14,8 @@ pub use Rattle.rpm_db.specs.Inits.{IsEmpty, IsEmptyStill}
 pub use Rattle.rpm_db.specs.Lawful.{Agrees, AreLawful, HasRows, is_current_at, IsIndexOf, IsLawful, IsLawfulStill, IsOfRows, IsUnsealed, IsWholeIndex, Remade}
 pub use Rattle.rpm_db.specs.Lawful.{StaysLawful}
 pub use Rattle.rpm_db.specs.Openings.{IsOpened, IsOpenedOn, must_rebuild, StoreIs, units_needed}
-pub use Rattle.rpm_db.specs.laws.Own.{header-own}
-pub use Rattle.rpm_db.specs.laws.PackageLaws.{get-packages, is_there}
+pub use Rattle.rpm_db.proofs.laws.Own.{header-own}
+pub use Rattle.rpm_db.proofs.laws.PackageLaws.{get-packages, is_there}
 pub use Rattle.rpm_db.specs.Reaches.{added_rows, dropped_rows, found_rows, ReachesMade}
 pub use Rattle.rpm_db.specs.laws.Parts.{added_units}
 pub use Rattle.rpm_db.specs.Refusals.{AddAnswer, BadCause, BadIndexIs, EraseCause, EraseAnswer, FullCause, FullIndexIs, is_stopping, IsOfStoreErasing}
@@ -24,16 +24,16 @@ pub use Rattle.rpm_db.specs.Refusals.{IsOfReading}
 pub use Rattle.rpm_db.specs.Refusals.{IsRead, IsRefusal, LaterCause, LaterIs, PutAnswer, PutsHeader, WholeCause}
 pub use Rattle.rpm_db.specs.Room.{next_store, RoomCause}
 pub use Rattle.rpm_db.specs.inner.Writes.{raised_store}
-pub use Rattle.rpm_db.specs.laws.RowLaws.{of_at, rows-insert, rows-remove, times-append, times-rows, times_none, times_one}
+pub use Rattle.rpm_db.proofs.laws.RowLaws.{of_at, rows-insert, rows-remove, times-append, times-rows, times_none, times_one}
 pub use Rattle.rpm_db.specs.Rows.{kinds, package_rows, rows_at}
 pub use Rattle.rpm_db.specs.laws.Parts.{key_row, kind_rows, rows_in, rows_read}
 unfoldable pub use Rattle.rpm_db.specs.Rows.{header_rows, rows}
-pub use Rattle.rpm_db.specs.laws.Running.{runs_index, runs_looks, runs_sync, runs_then, runs_weaker}
+pub use Rattle.rpm_db.proofs.laws.Running.{runs_index, runs_looks, runs_sync, runs_then, runs_weaker}
 pub use Rattle.rpm_db.specs.Runs.{ImageFrom, SameFiles, SameLog}
 pub use Rattle.rpm_db.specs.State.{above, Bad, Good, Package, package_of, state}
 pub use Rattle.rpm_db.specs.laws.Parts.{read_as}
 unfoldable pub use Rattle.rpm_db.specs.State.{packages}
-pub use Rattle.rpm_db.specs.laws.StateLaws.{next-state, next_is_free, package-own, packages-blobs, packages-insert, packages-remove, state-blobs}
+pub use Rattle.rpm_db.proofs.laws.StateLaws.{next-state, next_is_free, package-own, packages-blobs, packages-insert, packages-remove, state-blobs}
 pub use Rattle.rpm_db.specs.Verdicts.{KeepsVerdicts, verdict, verdict_of}
 pub use Rattle.rpm_db.specs.declared.change_fault.ChangeFault.{ChangeFault}
 pub use Rattle.rpm_db.specs.declared.change_fault.ChangeFault.TheVariants.{BadHeader, BadIndex, DiskFault, GenerationSpent, IndexFull, NoMemory, NoSuch}
@@ -80,11 +80,11 @@ pub use Rattle.rpm_outside.specs.Files.{blank, Files, with_units, unit_at, Units
 pub use Rattle.rpm_outside.specs.Frame.{Changes, images, CrashLeaves, OnlyReads}
 pub use Rattle.rpm_outside.specs.declared.disk.File.{File}
 pub use Rattle.rpm_outside.specs.declared.disk.File.TheVariants.{Idx, Log, Pkg}
-pub use Rattle.rpm_outside.specs.laws.Changing.{changes_between, changes_then, changes_weaker, crashes_then, crashes_weaker}
-pub use Rattle.rpm_outside.specs.laws.Looking.{looks_more, looks_none, looks_then}
-pub use Rattle.rpm_outside.specs.laws.Moments.{leaves_then, leaves_weaker}
+pub use Rattle.rpm_outside.proofs.laws.Changing.{changes_between, changes_then, changes_weaker, crashes_then, crashes_weaker}
+pub use Rattle.rpm_outside.proofs.laws.Looking.{looks_more, looks_none, looks_then}
+pub use Rattle.rpm_outside.proofs.laws.Moments.{leaves_then, leaves_weaker}
 pub use Rattle.rpm_pkgdb.specs.Answers.{AnswerIs, given_bytes}
-pub use Rattle.rpm_pkgdb.specs.laws.BlobLaws.{get-blobs, get-blobs-frames}
+pub use Rattle.rpm_pkgdb.proofs.laws.BlobLaws.{get-blobs, get-blobs-frames}
 pub use Rattle.rpm_pkgdb.specs.Blobs.{blob_in, Frame, frame_of, frames}
 pub use Rattle.rpm_pkgdb.specs.laws.Parts.{entry_of_slot}
 unfoldable pub use Rattle.rpm_pkgdb.specs.Blobs.{blobs}

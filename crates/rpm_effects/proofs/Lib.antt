@@ -1,3 +1,4 @@
 mod Joins
 mod Told
 mod Vocabulary
+pub mod laws

@@ -6,6 +6,6 @@ pub use Rattle.rpm_effects.specs.Texts.{header_text}
 unfoldable pub use Rattle.rpm_effects.specs.Texts.{file_text}
 pub use Rattle.rpm_outside.specs.Sinks.{GainIs, GainedPart}
 pub use Rattle.rpm_outside.specs.laws.Taken.{gained_none}
-pub use Rattle.rpm_outside.specs.laws.Flushed.{flushed, stopped}
-pub use Rattle.rpm_outside.specs.laws.Upto.{Upto, upto_more, upto_stop}
+pub use Rattle.rpm_outside.proofs.laws.Flushed.{flushed, stopped}
+pub use Rattle.rpm_outside.proofs.laws.Upto.{Upto, upto_more, upto_stop}
 pub use Rattle.std.specs.List.{concat}

@@ -9,4 +9,3 @@ pub mod Progress
 pub mod Shown
 pub mod Steps
 pub mod Texts
-pub mod laws

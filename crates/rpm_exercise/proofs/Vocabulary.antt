@@ -8,27 +8,27 @@ pub use Rattle.rpm_effects.specs.Steps.{apply_all, Course, whole_step}
 pub use Rattle.rpm_effects.specs.Shown.{EndedOnOut, EndedQuietly}
 pub use Rattle.rpm_effects.specs.declared.tally.Halt.{Halt}
 pub use Rattle.rpm_effects.specs.declared.tally.Tally.{Tally}
-pub use Rattle.rpm_effects.specs.laws.Courses.{none_gone, plus, stopped_by}
-pub use Rattle.rpm_effects.specs.laws.Reaching.{through_none}
-pub use Rattle.rpm_change.specs.laws.Going.{counted_went, none_went, stopped_went, went_ahead, went_then, whole_bad}
-pub use Rattle.rpm_change.specs.laws.Parts.{Going, going_begin, going_end, going_more, going_stop}
-pub use Rattle.rpm_change.specs.laws.Handing.{err_is}
-pub use Rattle.rpm_effects.specs.laws.Joins.{out_gone, quiet_joins, quiet_none, quiet_stopped, cause_then}
+pub use Rattle.rpm_effects.proofs.laws.Courses.{none_gone, plus, stopped_by}
+pub use Rattle.rpm_effects.proofs.laws.Reaching.{through_none}
+pub use Rattle.rpm_change.proofs.laws.Going.{counted_went, none_went, stopped_went, went_ahead, went_then, whole_bad}
+pub use Rattle.rpm_change.proofs.laws.Parts.{Going, going_begin, going_end, going_more, going_stop}
+pub use Rattle.rpm_change.proofs.laws.Handing.{err_is}
+pub use Rattle.rpm_effects.proofs.laws.Joins.{out_gone, quiet_joins, quiet_none, quiet_stopped, cause_then}
 pub use Rattle.rpm_change.specs.inner.IndexLaws.{at_index, by_index}
-pub use Rattle.rpm_change.specs.laws.Leaving.{current_left, none_by, remade_log, remade_then, state_remade}
-pub use Rattle.rpm_change.specs.laws.Owing.{list_finished, list_stopped, list_unfinished, owing_begun, owing_none, owing_then}
-pub use Rattle.rpm_change.specs.laws.Reading.{left_read, looks_run, reads_on}
-pub use Rattle.rpm_change.specs.laws.Single.{other_stop}
-pub use Rattle.rpm_change.specs.laws.Telling.{told_all, told_none, told_part}
+pub use Rattle.rpm_change.proofs.laws.Leaving.{current_left, none_by, remade_log, remade_then, state_remade}
+pub use Rattle.rpm_change.proofs.laws.Owing.{list_finished, list_stopped, list_unfinished, owing_begun, owing_none, owing_then}
+pub use Rattle.rpm_change.proofs.laws.Reading.{left_read, looks_run, reads_on}
+pub use Rattle.rpm_change.proofs.laws.Single.{other_stop}
+pub use Rattle.rpm_change.proofs.laws.Telling.{told_all, told_none, told_part}
 pub use Rattle.rpm_db.specs.Asked.{IsAskable}
 pub use Rattle.rpm_db.specs.Changes.{Change, next}
 pub use Rattle.rpm_db.specs.Database.{Database, is_indexed}
 pub use Rattle.rpm_db.specs.Frame.{packages_in, Runs, state_in}
 pub use Rattle.rpm_db.specs.Database.{store_of}
-pub use Rattle.rpm_db.specs.laws.FromOne.{from_one}
+pub use Rattle.rpm_db.proofs.laws.FromOne.{from_one}
 pub use Rattle.rpm_db.specs.Gathering.{due, IsGathering, OwesOn}
 pub use Rattle.rpm_db.specs.Refusals.{IsOfIndex}
-pub use Rattle.rpm_db.specs.laws.Running.{runs_looks, runs_none}
+pub use Rattle.rpm_db.proofs.laws.Running.{runs_looks, runs_none}
 pub use Rattle.rpm_db.specs.Runs.{SameFiles}
 pub use Rattle.rpm_db.specs.State.{above, Package, State}
 pub use Rattle.rpm_db.specs.declared.change_fault.ChangeFault.{ChangeFault}
@@ -52,7 +52,7 @@ pub use Rattle.rpm_select.specs.declared.picked.PickFault.{PickFault}
 pub use Rattle.rpm_select.specs.declared.picked.Picked.{Picked}
 pub use Rattle.rpm_select.specs.declared.picked.Picked.TheVariants.{Bad, Good}
 pub use Rattle.rpm_select.specs.declared.selection.Selection.{Selection}
-pub use Rattle.rpm_select.specs.laws.Rising.{next_picked, picks_from_one}
+pub use Rattle.rpm_select.proofs.laws.Rising.{next_picked, picks_from_one}
 unfoldable pub use Rattle.rpm_version.specs.Capability.{capability, words}
 pub use Rattle.sha2.specs.Hashers.{Holds256}
 pub use Rattle.sha2.specs.Sha256.{sha256}

@@ -8,3 +8,4 @@ pub mod Packaged
 pub mod Tagged
 pub mod Vocabulary
 pub mod Layers
+pub mod laws

@@ -17,7 +17,7 @@ unfoldable pub use Rattle.rpm_file.specs.inner.Chain.{behind_signature}
 pub use Rattle.rpm_file.specs.inner.Filling.{Extends, Fills}
 pub use Rattle.rpm_file.specs.inner.Joining.{dribble_as, dribbles, has_tag, HasIndexBytes, HasTags, JoinsUnder, made_fault, passes_limits}
 pub use Rattle.rpm_file.specs.inner.Parts.{AnswersBehind, AnswersBytes, AnswersMade, AnswersSkip, AnswersTake, IsMadeFault}
-pub use Rattle.rpm_file.specs.laws.Lists.{found_of_size, some_found}
+pub use Rattle.rpm_file.proofs.laws.Lists.{found_of_size, some_found}
 pub use Rattle.rpm_header.specs.Build.{with_tag}
 unfoldable pub use Rattle.rpm_header.specs.Bytes.{are_ended, number_at, numbers, texts}
 pub use Rattle.rpm_header.specs.Digest.{magic}
@@ -29,10 +29,10 @@ unfoldable pub use Rattle.rpm_header.specs.Laid.{entry_bytes, data_from, index_b
 pub use Rattle.rpm_header.specs.declared.form.Form.{Form}
 pub use Rattle.rpm_header.specs.declared.form.HeaderFault.{HeaderFault}
 pub use Rattle.rpm_header.specs.declared.laying.BuildFault.{BuildFault}
-pub use Rattle.rpm_header.specs.laws.Longer.{number_longer}
+pub use Rattle.rpm_header.proofs.laws.Longer.{number_longer}
 unfoldable pub use Rattle.rpm_header.specs.laws.Words.{entry_fault}
 pub use Rattle.rpm_outside.specs.Browses.{Browses, bytes_left, Takes}
-pub use Rattle.rpm_outside.specs.laws.Browsing.{browses_then, reads_one, takes_then}
+pub use Rattle.rpm_outside.proofs.laws.Browsing.{browses_then, reads_one, takes_then}
 pub use Rattle.std.specs.Cmp.Lexicographic.{pointwise}
 pub use Rattle.std.specs.Int.{w16, w32}
 pub use Rattle.std.specs.List.{filter_map}

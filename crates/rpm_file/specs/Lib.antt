@@ -4,4 +4,3 @@ pub mod Merging
 pub mod Package
 pub mod Prelude
 pub mod inner
-pub mod laws

@@ -3,7 +3,7 @@ use Rattle.rpm_filecheck.proofs.Vocabulary.{above, all_above_zero, Database, Gat
 use Rattle.rpm_filecheck.proofs.Vocabulary.{Package, packages, store_of, Units, with_packages, with_some}
 use Rattle.std.proofs.Common.{◌≡◌, ℕ, List, true, Option, Some, None, is_some, refl, sym, ap, ◌∙◌}
 use Rattle.std.specs.FinMap as finite
-use Rattle.rpm_db.specs.laws.FromOne.{from_one as none_zero}
+use Rattle.rpm_db.proofs.laws.FromOne.{from_one as none_zero}
 
 some_is : (o : Option Package) → is_some o ≡ true → (p : Package) × (o ≡ Some p)
 some_is None some = absurd cc

@@ -1,9 +1,9 @@
 -- The words of proofs, from one place.
-pub use Rattle.rpm_db.specs.laws.Above.{all_above_zero, both_true, is_below, next_above, none_below, none_is, nothing_above}
+pub use Rattle.rpm_db.proofs.laws.Above.{all_above_zero, both_true, is_below, next_above, none_below, none_is, nothing_above}
 pub use Rattle.rpm_db.specs.Database.{package_cost, packages_cost, packages_cost_to, Database, IsNext, Keeps}
 pub use Rattle.rpm_db.specs.Database.{store_of}
-pub use Rattle.rpm_db.specs.laws.Own.{header-own}
-pub use Rattle.rpm_db.specs.laws.PackageLaws.{cost_more, cost_some, is_there}
+pub use Rattle.rpm_db.proofs.laws.Own.{header-own}
+pub use Rattle.rpm_db.proofs.laws.PackageLaws.{cost_more, cost_some, is_there}
 pub use Rattle.rpm_db.specs.State.{above, Bad, Good, Package, package_of, packages}
 pub use Rattle.rpm_db.specs.laws.Parts.{read_as}
 pub use Rattle.rpm_filecheck.specs.Conflicts.{files_of, IsReport, conflict_label, label_at, label_of, label_read}
@@ -23,7 +23,7 @@ pub use Rattle.rpm_header.specs.declared.form.HeaderFault.{HeaderFault}
 pub use Rattle.rpm_outside.specs.Files.{Files, Units}
 pub use Rattle.rpm_outside.specs.Looks.{OnlyReads}
 pub use Rattle.rpm_outside.specs.declared.disk.File.TheVariants.{Pkg}
-pub use Rattle.rpm_outside.specs.laws.Looking.{looks_more, looks_none, looks_then}
+pub use Rattle.rpm_outside.proofs.laws.Looking.{looks_more, looks_none, looks_then}
 pub use Rattle.std.specs.BTreeMap.{insert_entry, is_at}
 pub use Rattle.std.specs.Cmp.{unsigned_tied}
 pub use Rattle.std.specs.Cmp.Lexicographic.{nat_list_cmp_total}

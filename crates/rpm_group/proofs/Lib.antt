@@ -24,3 +24,4 @@ pub mod Committing
 pub mod Behinds
 pub mod Longest
 pub mod Vocabulary
+pub mod laws

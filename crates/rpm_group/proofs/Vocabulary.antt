@@ -42,23 +42,23 @@ pub use Rattle.rpm_outside.specs.Words.{unit_of_words}
 unfoldable pub use Rattle.rpm_outside.specs.Words.{word}
 pub use Rattle.rpm_outside.specs.declared.disk.File.{File}
 pub use Rattle.rpm_outside.specs.declared.disk.File.TheVariants.{Idx, Log, Pkg}
-pub use Rattle.rpm_outside.specs.laws.ChangedLaws.{changed_leaves_more, changed_leaves_then, changed_more, changed_none, changed_then, leaves_none}
-pub use Rattle.rpm_outside.specs.laws.ChangedLaws.{torn_changed, write_leaves}
-pub use Rattle.rpm_outside.specs.laws.Cuts.{cut_up_one, length-cut_up, unit_at-cut_up}
-pub use Rattle.rpm_outside.specs.laws.EntryLaws.{within_changed, within_none, within_then}
+pub use Rattle.rpm_outside.proofs.laws.ChangedLaws.{changed_leaves_more, changed_leaves_then, changed_more, changed_none, changed_then, leaves_none}
+pub use Rattle.rpm_outside.proofs.laws.ChangedLaws.{torn_changed, write_leaves}
+pub use Rattle.rpm_outside.proofs.laws.Cuts.{cut_up_one, length-cut_up, unit_at-cut_up}
+pub use Rattle.rpm_outside.proofs.laws.EntryLaws.{within_changed, within_none, within_then}
 pub use Rattle.rpm_outside.specs.laws.FileLaws.{file_of-with, other_file, with_file-with_file, with_itself}
 pub use Rattle.rpm_outside.specs.laws.History.{torn_file_none, torn_file_whole}
-pub use Rattle.rpm_outside.specs.laws.Leaves.{changed_after_look, sync_leaves, then_back, then_look}
-pub use Rattle.rpm_outside.specs.laws.LogLaws.{blank_closed, closing, entries_done, entries_log, first_unit, heads_not_log, log_not_log, NotLog}
-pub use Rattle.rpm_outside.specs.laws.LogLaws.{reopened_closed, reopened_open, reopened_within, torn_first, unlogged_entries, within_log}
-pub use Rattle.rpm_outside.specs.laws.LogRules.{log_after, after-open, after-push, after-wrong, closed_blank, entry_units, commit_record_last}
-pub use Rattle.rpm_outside.specs.laws.LogRules.{commit_record_right, commit_record_wrong}
-pub use Rattle.rpm_outside.specs.laws.LogRules.{head_parts, head_past, heads_done, heads_more, heads_right, heads_wrong, none_closed}
-pub use Rattle.rpm_outside.specs.laws.LogWriting.{entries_end, entries_kept, entries_long, entries_push, entries_then, opened_is, word_full}
-pub use Rattle.rpm_outside.specs.laws.Looking.{looks_at_none, looks_at_then, read_none}
-pub use Rattle.rpm_outside.specs.laws.Moments.{leaves_then, leaves_weaker, one_more, started}
-pub use Rattle.rpm_outside.specs.laws.PutLaws.{put_split, same_units}
-pub use Rattle.rpm_outside.specs.laws.PutMore.{put_some, put_some_append, put_some_is}
+pub use Rattle.rpm_outside.proofs.laws.Leaves.{changed_after_look, sync_leaves, then_back, then_look}
+pub use Rattle.rpm_outside.proofs.laws.LogLaws.{blank_closed, closing, entries_done, entries_log, first_unit, heads_not_log, log_not_log, NotLog}
+pub use Rattle.rpm_outside.proofs.laws.LogLaws.{reopened_closed, reopened_open, reopened_within, torn_first, unlogged_entries, within_log}
+pub use Rattle.rpm_outside.proofs.laws.LogRules.{log_after, after-open, after-push, after-wrong, closed_blank, entry_units, commit_record_last}
+pub use Rattle.rpm_outside.proofs.laws.LogRules.{commit_record_right, commit_record_wrong}
+pub use Rattle.rpm_outside.proofs.laws.LogRules.{head_parts, head_past, heads_done, heads_more, heads_right, heads_wrong, none_closed}
+pub use Rattle.rpm_outside.proofs.laws.LogWriting.{entries_end, entries_kept, entries_long, entries_push, entries_then, opened_is, word_full}
+pub use Rattle.rpm_outside.proofs.laws.Looking.{looks_at_none, looks_at_then, read_none}
+pub use Rattle.rpm_outside.proofs.laws.Moments.{leaves_then, leaves_weaker, one_more, started}
+pub use Rattle.rpm_outside.proofs.laws.PutLaws.{put_split, same_units}
+pub use Rattle.rpm_outside.proofs.laws.PutMore.{put_some, put_some_append, put_some_is}
 pub use Rattle.rpm_outside.specs.laws.Puts.{length-put, put_after, put_before, put_inside}
-pub use Rattle.rpm_outside.specs.laws.UnitLaws.{length-unit, word_0, word_1, word_2, word_3}
+pub use Rattle.rpm_outside.proofs.laws.UnitLaws.{length-unit, word_0, word_1, word_2, word_3}
 pub use Rattle.std.specs.declared.alloc.Global.{Global}

@@ -1,4 +1,3 @@
 -- What crates above cite, and what it is proved by.
 pub mod Below
-pub mod KeptLogs
 pub mod LogReads

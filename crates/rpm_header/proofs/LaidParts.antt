@@ -6,7 +6,7 @@ use Rattle.rpm_header.proofs.Vocabulary.{lengths_of, ReadsBack, region_item, to_
 use Rattle.std.proofs.lemmas.Bool.Decides.{leb_tells}
 use Rattle.std.proofs.lemmas.List.{append-nil}
 use Rattle.rpm_header.proofs.LaidSections.{length-index_bytes}
-use Rattle.rpm_header.proofs.Laws.{laid_again}
+use Rattle.rpm_header.proofs.LaidHeader.{laid_again}
 
 pub record IsWithin (n m : ℕ) (l : Lengths) : Type 0 where
   pub entries : l.entries ≡ n

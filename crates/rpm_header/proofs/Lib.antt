@@ -13,7 +13,7 @@ pub mod Kept
 pub mod LaidOut
 pub mod LaidParts
 pub mod LaidSections
-pub mod Laws
+pub mod LaidHeader
 pub mod Longer
 pub mod Near
 pub mod NumbersAgain
@@ -33,3 +33,4 @@ pub mod TextsAgain
 pub mod Values
 pub mod Whole
 pub mod Vocabulary
+pub mod laws

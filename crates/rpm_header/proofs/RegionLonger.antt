@@ -13,7 +13,7 @@ use Rattle.rpm_header.proofs.Cut.{number_in_front}
 use Rattle.rpm_header.proofs.Longer.{room_of, faultless}
 use Rattle.rpm_header.proofs.EntryLonger.{in_data, fault_longer}
 use Rattle.rpm_header.proofs.EntriesAgain.{neither}
-use Rattle.rpm_header.proofs.Laws.{no_region_fault}
+use Rattle.rpm_header.proofs.LaidHeader.{no_region_fault}
 
 range_split : (a m n : ℕ) → range_with_len a (m + n) ≡ range_with_len a m ++ range_with_len (a + m) n
 range_split a zero n = rw (zero-add, add-zero) refl

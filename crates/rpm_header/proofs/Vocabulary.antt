@@ -20,7 +20,7 @@ pub use Rattle.rpm_header.specs.declared.form.HeaderFault.TheVariants.{BadCount,
 pub use Rattle.rpm_header.specs.declared.index.IndexEntry.{IndexEntry}
 pub use Rattle.rpm_header.specs.declared.laying.Lengths.{Lengths}
 pub use Rattle.rpm_header.specs.inner.Checked.{HasElements, IsCutAsSaid, IsInside, IsBlobSound}
-pub use Rattle.rpm_header.specs.laws.Longer.{number_longer}
+pub use Rattle.rpm_header.proofs.laws.Longer.{number_longer}
 pub use Rattle.rpm_header.specs.laws.Words.{begins_with, counts_back, dribbled_index, each_below, end_of_data, entry_in_index, header_in_file, index_of}
 pub use Rattle.rpm_header.specs.laws.Words.{region_entries, region_entry, trailer_entry, unless}
 unfoldable pub use Rattle.rpm_header.specs.laws.Words.{entry_fault}

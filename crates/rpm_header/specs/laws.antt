@@ -1,3 +1,2 @@
 -- What crates above cite, and what it is proved by.
-pub mod Longer
 pub mod Words

@@ -52,3 +52,4 @@ pub mod Starts
 pub mod RowsLeft
 pub mod Gone
 pub mod Vocabulary
+pub mod laws

@@ -51,7 +51,7 @@ unfoldable pub use Rattle.rpm_hindex.specs.inner.Making.{record_of}
 pub use Rattle.rpm_hindex.specs.inner.Ongoing.{IsDropFault}
 pub use Rattle.rpm_hindex.specs.inner.Packed.{AreKeysPacked, ArePieces, rows_in_pieces, left_rows, no_head, row_in, packed_rows}
 pub use Rattle.rpm_hindex.specs.inner.Records.{HasBuckets}
-pub use Rattle.rpm_hindex.specs.laws.RowLaws.{live-append, once, same_is, times-append, times-cons, times_none, times_one, without}
+pub use Rattle.rpm_hindex.proofs.laws.RowLaws.{live-append, once, same_is, times-append, times-cons, times_none, times_one, without}
 pub use Rattle.rpm_hindex.specs.inner.Spots.{HasNone, IsRecordAhead, IsRowFound, IsFoundFrom, IsFront, IsRecordHead, IsHeadWithin, IsLastPlace}
 pub use Rattle.rpm_hindex.specs.inner.Spots.{IsLinked, IsMet, IsMissing}
 pub use Rattle.rpm_hindex.specs.inner.Spots.{IsNextUnit, IsPath, IsSoundSpot, IsSpot, IsWithin, OnWay, PathCosts, SkipsTo}
@@ -65,12 +65,12 @@ pub use Rattle.rpm_outside.specs.Looks.{OnlyReads, OnlyReadsFile}
 pub use Rattle.rpm_outside.specs.Words.{unit_of_words}
 unfoldable pub use Rattle.rpm_outside.specs.Words.{bytes_of_word, word}
 pub use Rattle.rpm_outside.specs.declared.disk.File.TheVariants.{Idx}
-pub use Rattle.rpm_outside.specs.laws.Changing.{changes_between, changes_none, changes_sync, changes_then, changes_weaker, changes_write}
-pub use Rattle.rpm_outside.specs.laws.Cuts.{bytes_of-cut_up, cut_up_one, length-cut_up, unit_at-cut_up}
-pub use Rattle.rpm_outside.specs.laws.Looking.{looks_at_from, looks_at_none, looks_at_then, looks_more, looks_none, looks_then}
-pub use Rattle.rpm_outside.specs.laws.PutLaws.{same_units}
+pub use Rattle.rpm_outside.proofs.laws.Changing.{changes_between, changes_none, changes_sync, changes_then, changes_weaker, changes_write}
+pub use Rattle.rpm_outside.proofs.laws.Cuts.{bytes_of-cut_up, cut_up_one, length-cut_up, unit_at-cut_up}
+pub use Rattle.rpm_outside.proofs.laws.Looking.{looks_at_from, looks_at_none, looks_at_then, looks_more, looks_none, looks_then}
+pub use Rattle.rpm_outside.proofs.laws.PutLaws.{same_units}
 pub use Rattle.rpm_outside.specs.laws.Puts.{length-put, put_after, put_before, put_inside}
-pub use Rattle.rpm_outside.specs.laws.UnitLaws.{length-unit, word_0, word_1, word_2, word_3}
+pub use Rattle.rpm_outside.proofs.laws.UnitLaws.{length-unit, word_0, word_1, word_2, word_3}
 pub use Rattle.std.specs.BTreeMap.{get, is_at, keys}
 pub use Rattle.std.specs.BTreeSet.{BTreeSet, contains}
 pub use Rattle.std.specs.Int.{from_le_bytes, w32}

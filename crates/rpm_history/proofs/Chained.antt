@@ -6,12 +6,12 @@ use Rattle.rpm_history.proofs.Vocabulary.{after, AllRowsFit, AllStand, AreLawful
 use Rattle.rpm_history.proofs.Vocabulary.{given_on, HasState, images, InTurn, InTurnBefore, is_done, LeadsByLines, leaves_then, leaves_weaker, CrashLeaves, LeavesState}
 use Rattle.rpm_history.proofs.Vocabulary.{LineIs, LineStays, Moves, Paths, reopened_files, RowsFit, RunCall, Says, RepresentsState, started, State, state, Store, store}
 use Rattle.rpm_history.proofs.Vocabulary.{Outputs, Run, run_of, TellsCalls, Units, Why}
-use Rattle.rpm_commit.specs.laws.Brokens.{by_bool}
+use Rattle.rpm_commit.proofs.laws.Brokens.{by_bool}
 use Rattle.rpm_history.proofs.Fitting.{course_fits}
 use Rattle.rpm_history.proofs.Histories.{Cut, cut_stands, line_fits, LineDoes, Next, next_all, stands_weaker, moves_nothing}
 use Rattle.rpm_history.proofs.Lined.{from_itself, from_one, line_does, line_changes}
 use Rattle.rpm_history.proofs.Numbering.{Numbered, numbered_made, numbered_moved, given_nothing, given_undone, given_done}
-use Rattle.rpm_commit.specs.laws.Standing.{if_ok_at, ok_is}
+use Rattle.rpm_commit.proofs.laws.Standing.{if_ok_at, ok_is}
 use Rattle.rpm_outside.specs.declared.disk.Disk as disk
 use Rattle.rpm_outside.specs.declared.shelf.Shelf as shelf
 use Rattle.rpm_outside.specs.declared.sink.Sink as sink

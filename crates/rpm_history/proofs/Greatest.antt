@@ -1,7 +1,7 @@
 -- The numbers of the packages that are there, all below a number.
 use Rattle.std.proofs.Common.{◌≡◌, ℕ, ◌+◌, ◌≤◌, ◌<◌, true, false, ◌==◌, None, is_some, sym, ap, ◌∙◌, refl, inl, inr, arith}
 use Rattle.rpm_history.proofs.Vocabulary.{eq_by_cmp, FinMap, greatest_in, nat_cmp, Package, unsigned_tied}
-use Rattle.rpm_db.specs.laws.StateLaws.{below_greatest, found_greatest}
+use Rattle.rpm_db.proofs.laws.StateLaws.{below_greatest, found_greatest}
 use Rattle.std.specs.FinMap as finite
 use Rattle.std.proofs.lemmas.Bool.{cases_Bool}
 use Rattle.std.proofs.lemmas.Bool.Decides.{nat_tests}

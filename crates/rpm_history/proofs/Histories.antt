@@ -3,9 +3,9 @@ use Rattle.std.proofs.Common.{◌≡◌, ◌⊎◌, ℕ, ◌≤◌, Bool, false,
 use Rattle.rpm_history.proofs.Vocabulary.{after, AllRowsFit, AllStand, apply_all, AreLawfulDatabases, ChangesWith, Course, Files, HasState, idle, images, is_done}
 use Rattle.rpm_history.proofs.Vocabulary.{is_done_or_fault, leaves_weaker, CrashLeaves, Moves, reopened_files, RowsFit, Run, Says, RepresentsState, IsLawfulAndSame, IsLawfulAndSameOr}
 use Rattle.rpm_history.proofs.Vocabulary.{State, state, store, Units, Why}
-use Rattle.rpm_commit.specs.laws.Brokens.{by_bool}
-use Rattle.rpm_commit.specs.laws.Recovered.{still_fits}
-use Rattle.rpm_commit.specs.laws.Standing.{if_ok_at}
+use Rattle.rpm_commit.proofs.laws.Brokens.{by_bool}
+use Rattle.rpm_commit.proofs.laws.Recovered.{still_fits}
+use Rattle.rpm_commit.proofs.laws.Standing.{if_ok_at}
 use Rattle.rpm_outside.specs.declared.disk.Disk as disk
 use Rattle.rpm_effects.specs.declared.answer.Why.TheVariants as why
 

@@ -7,10 +7,10 @@ use Rattle.rpm_history.proofs.Vocabulary.{FromOneOf, idle, Importing, is_anew, I
 use Rattle.rpm_history.proofs.Vocabulary.{reads_shelf, reopened_files, Replacing, RunCall, RepresentsState, IsLawfulAndSame, State, state, task_course, TaskParts, TellsCalls}
 use Rattle.rpm_history.proofs.Vocabulary.{ChangesWith, AnswersCommand, Run, run_of, setting_of, TellsLines, Tree, uses_in, uses_shelf}
 use Rattle.rpm_outside.specs.Frame.{images, CrashLeaves}
-use Rattle.rpm_commit.specs.laws.Brokens.{by_bool}
+use Rattle.rpm_commit.proofs.laws.Brokens.{by_bool}
 use Rattle.rpm_history.proofs.Histories.{LineDoes, Stood}
 use Rattle.std.proofs.lemmas.Bool.{or_right}
-use Rattle.rpm_commit.specs.laws.Standing.{lawful_store}
+use Rattle.rpm_commit.proofs.laws.Standing.{lawful_store}
 use Rattle.rpm_outside.specs.declared.disk.Disk as disk
 use Rattle.rpm_outside.specs.declared.shelf.Shelf as shelf
 use Rattle.rpm_outside.specs.declared.sink.Sink as sink

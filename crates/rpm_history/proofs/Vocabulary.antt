@@ -33,7 +33,7 @@ pub use Rattle.rpm_outside.specs.Files.{Files, Units}
 pub use Rattle.rpm_outside.specs.Frame.{images, CrashLeaves}
 pub use Rattle.rpm_outside.specs.Logs.{reopened_files}
 pub use Rattle.rpm_outside.specs.Shelves.{bytes_at, Paths}
-pub use Rattle.rpm_outside.specs.laws.Moments.{leaves_then, leaves_weaker, started}
+pub use Rattle.rpm_outside.proofs.laws.Moments.{leaves_then, leaves_weaker, started}
 pub use Rattle.rpm_pkgdb.specs.Store.{store, Store}
 pub use Rattle.rpm_pkgdb.specs.declared.slot.Damage.{Damage}
 pub use Rattle.rpm_command.specs.Asked.{by_key, of_files}

@@ -28,13 +28,13 @@ pub use Rattle.rpm_outside.specs.declared.steps.Step.{Step}
 pub use Rattle.rpm_outside.specs.declared.steps.Step.TheVariants.{Synced, Wrote}
 pub use Rattle.rpm_outside.specs.inner.Copies.{AddsCopy, HoldCopies, is_loose, IsCopy, is_loose_after_write, NoneLoose, SyncsFile, StartsFrom}
 pub use Rattle.rpm_outside.specs.inner.Copies.{is_loose_after_sync}
-pub use Rattle.rpm_outside.specs.laws.Cuts.{bytes_of_more, length-cut_up, units_of-bytes_of}
+pub use Rattle.rpm_outside.proofs.laws.Cuts.{bytes_of_more, length-cut_up, units_of-bytes_of}
 pub use Rattle.rpm_outside.specs.laws.FileLaws.{file_of-with, other_file, same_files, with_itself}
-pub use Rattle.rpm_outside.specs.laws.Flushed.{flushed, handed, stopped}
+pub use Rattle.rpm_outside.proofs.laws.Flushed.{flushed, handed, stopped}
 pub use Rattle.rpm_outside.specs.laws.History.{after_steps-push, as_read_now, elapses_push, elapses_same, follows_none, follows_write, now_images, push_left}
 pub use Rattle.rpm_outside.specs.laws.History.{sync_step, torn_file_none, torn_file_whole, torn_none, torn_whole}
 pub use Rattle.rpm_outside.proofs.ImageLaws.{images_are}
-pub use Rattle.rpm_outside.specs.laws.PutLaws.{same_units}
+pub use Rattle.rpm_outside.proofs.laws.PutLaws.{same_units}
 pub use Rattle.rpm_outside.specs.laws.Puts.{length-put, put_after, put_before, put_cases, put_inside}
 pub use Rattle.rpm_outside.specs.laws.Taken.{gained_more, taken_more}
 pub use Rattle.std.specs.Cmp.Lexicographic.{slice_cmp}

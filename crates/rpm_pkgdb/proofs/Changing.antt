@@ -3,8 +3,8 @@ use Rattle.std.proofs.Common.{◌≡◌, ℕ, ◌+◌, ◌≤◌, Result, Ok, Er
 use Rattle.std.specs.Prelude.{IsTrue}
 use Rattle.rpm_outside.specs.declared.disk.Disk as disk
 use Rattle.rpm_pkgdb.proofs.Vocabulary.{Failed, Files, images, CrashLeavesOnly, Pkg, ReadsOnly, ReadsOr, Rose, IsTornOnly, CrashLeavesFile, Units, Writes}
-use Rattle.rpm_outside.specs.laws.Changing as shared
-use Rattle.rpm_outside.specs.laws.Looking as reading
+use Rattle.rpm_outside.proofs.laws.Changing as shared
+use Rattle.rpm_outside.proofs.laws.Looking as reading
 
 -- the answer so far of a run that goes on
 abbrev pub done : Result (Unit {0}) Failed

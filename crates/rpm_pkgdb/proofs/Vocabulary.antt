@@ -1,7 +1,7 @@
 -- The words of proofs, from one place.
 pub use Rattle.rpm_blocks.specs.Blocks.{Blocks, IsFree, IsLeastFit, range, range_at, with_range, without}
-pub use Rattle.rpm_blocks.specs.laws.Laws.{apart_from_free, begins_in, free_from_apart, with_range_here, with_range_keeps, with_range_only, without_keeps}
-pub use Rattle.rpm_blocks.specs.laws.Laws.{without_only}
+pub use Rattle.rpm_blocks.proofs.laws.Laws.{apart_from_free, begins_in, free_from_apart, with_range_here, with_range_keeps, with_range_only, without_keeps}
+pub use Rattle.rpm_blocks.proofs.laws.Laws.{without_only}
 pub use Rattle.rpm_blocks.specs.declared.Range.{Range}
 pub use Rattle.rpm_outside.specs.Causes.{Rose}
 pub use Rattle.rpm_outside.specs.Changes.{IsSame, IsDurable, IsTornOnly}
@@ -13,24 +13,24 @@ pub use Rattle.rpm_outside.specs.Frame.{images, ReadsOnly, ReadsOr, Writes}
 unfoldable pub use Rattle.rpm_outside.specs.Words.{bytes_of_word}
 pub use Rattle.rpm_outside.specs.declared.disk.File.TheVariants.{Pkg}
 pub use Rattle.rpm_outside.specs.declared.failed.Failed.{Failed}
-pub use Rattle.rpm_outside.specs.laws.Changing.{changes_sync, changes_write}
-pub use Rattle.rpm_outside.specs.laws.Cuts.{bytes_of-cut_up, cut_up_one, length-cut_up, unit_at-cut_up}
-pub use Rattle.rpm_outside.specs.laws.Looking.{looks_more, looks_none, read_same}
-pub use Rattle.rpm_outside.specs.laws.Moments.{started}
-pub use Rattle.rpm_outside.specs.laws.PutLaws.{same_units}
+pub use Rattle.rpm_outside.proofs.laws.Changing.{changes_sync, changes_write}
+pub use Rattle.rpm_outside.proofs.laws.Cuts.{bytes_of-cut_up, cut_up_one, length-cut_up, unit_at-cut_up}
+pub use Rattle.rpm_outside.proofs.laws.Looking.{looks_more, looks_none, read_same}
+pub use Rattle.rpm_outside.proofs.laws.Moments.{started}
+pub use Rattle.rpm_outside.proofs.laws.PutLaws.{same_units}
 pub use Rattle.rpm_outside.specs.laws.Puts.{length-put, put_after, put_before, put_inside}
-pub use Rattle.rpm_outside.specs.laws.UnitLaws.{word_0, word_1, word_2, word_3}
+pub use Rattle.rpm_outside.proofs.laws.UnitLaws.{word_0, word_1, word_2, word_3}
 pub use Rattle.rpm_pkgdb.specs.Answers.{AnswerIs, frame_in, given_bytes, given_blob}
-pub use Rattle.rpm_pkgdb.specs.laws.BlobLaws.{get-blobs, get-blobs-frames}
+pub use Rattle.rpm_pkgdb.proofs.laws.BlobLaws.{get-blobs, get-blobs-frames}
 pub use Rattle.rpm_pkgdb.specs.Blobs.{blob_in, blocks_at, blocks_for, Frame, frame_of, frames, is_framed, tail}
 unfoldable pub use Rattle.rpm_pkgdb.specs.Blobs.{blobs, is_head, is_tail}
 unfoldable pub use Rattle.rpm_pkgdb.specs.Checksums.{adler, checksum_holds, sums}
 pub use Rattle.rpm_pkgdb.specs.Costs.{opening_cost}
 pub use Rattle.rpm_pkgdb.specs.laws.Parts.{head_cost}
 pub use Rattle.rpm_pkgdb.specs.Damages.{damage_at, slot_fault, used_reason}
-pub use Rattle.rpm_pkgdb.specs.laws.Runs.{first_from}
+pub use Rattle.rpm_pkgdb.proofs.laws.Runs.{first_from}
 unfoldable pub use Rattle.rpm_pkgdb.specs.Damages.{head_reason, own_reason, shared_reason, slot_units, table_fault}
-unfoldable pub use Rattle.rpm_pkgdb.specs.laws.Runs.{damage_of_slot}
+unfoldable pub use Rattle.rpm_pkgdb.proofs.laws.Runs.{damage_of_slot}
 pub use Rattle.rpm_pkgdb.specs.Frame.{IsWritten, pkg, Quiet, CrashLeavesFile}
 pub use Rattle.rpm_pkgdb.specs.Framing.{framed_blob, next_unit, padding, summed_bytes}
 unfoldable pub use Rattle.rpm_pkgdb.specs.Framing.{head_of, tail_of}
@@ -100,7 +100,7 @@ pub use Rattle.rpm_pkgdb.specs.inner.Putting.{IsBlobPut}
 pub use Rattle.rpm_pkgdb.specs.inner.Ranges.{AreRangesOf, AreRangesTo, Forgets, ForgetsSlot, HasStart, HasUsed, IsFreeIn, range_of_slot, HasRange, UsedSlotOf}
 pub use Rattle.rpm_pkgdb.specs.inner.Reading.{slots_with, AreRead, EndOfUnits, fault_of, IsAll, AreSlotsRead}
 pub use Rattle.rpm_pkgdb.specs.inner.Rising.{Awaits, free_from, PairsInOrder, IsInOrder}
-pub use Rattle.rpm_pkgdb.specs.laws.Runs.{option_or-assoc, range_next, run, run-append, same_map, table_is_first, table_is_run}
+pub use Rattle.rpm_pkgdb.proofs.laws.Runs.{option_or-assoc, range_next, run, run-append, same_map, table_is_first, table_is_run}
 pub use Rattle.rpm_pkgdb.specs.inner.Settings.{blocks_of, CanMove, CanSet, NoShorter, RepresentsSlot, WhileMoved, with_slot}
 pub use Rattle.rpm_pkgdb.specs.inner.Still.{RepresentsBlobs}
 pub use Rattle.rpm_pkgdb.specs.inner.Tables.{AreBounded, AreNumbered, AreOwn}

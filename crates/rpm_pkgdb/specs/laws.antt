@@ -1,4 +1,2 @@
 -- What crates above cite, and what it is proved by.
-pub mod BlobLaws
 pub mod Parts
-pub mod Runs

@@ -2,3 +2,4 @@ mod Asking
 mod Defaults
 mod Fixtures
 pub mod Vocabulary
+pub mod laws

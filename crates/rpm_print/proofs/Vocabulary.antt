@@ -9,7 +9,7 @@ pub use Rattle.rpm_header.specs.declared.form.HeaderFault.TheVariants.{BadType}
 unfoldable pub use Rattle.rpm_header.specs.laws.Words.{entry_fault}
 pub use Rattle.rpm_outside.specs.Buffered.{buffer_sink, inner}
 pub use Rattle.rpm_outside.specs.Files.{Units, units_of}
-pub use Rattle.rpm_outside.specs.laws.Flushed.{flushed, stopped}
+pub use Rattle.rpm_outside.proofs.laws.Flushed.{flushed, stopped}
 pub use Rattle.rpm_pkgdb.specs.Blobs.{blob_in, frame_of}
 unfoldable pub use Rattle.rpm_pkgdb.specs.Blobs.{is_head, is_tail}
 unfoldable pub use Rattle.rpm_pkgdb.specs.Damages.{head_reason, own_reason, shared_reason}

@@ -5,4 +5,3 @@ pub mod Printed
 pub mod Reads
 pub mod Texts
 pub mod inner
-pub mod laws

@@ -12,7 +12,7 @@ pub use Rattle.jiff_core.specs.Time.{time_nanos, time_seconds}
 pub use Rattle.jiff_core.specs.declared.civil.date.Date.{Date}
 pub use Rattle.rpm_header.specs.Header.{Header, Numbers, Texts}
 pub use Rattle.rpm_outside.specs.SinkFrame.{Writes}
-pub use Rattle.rpm_outside.specs.laws.Upto.{both, first_stops, Upto, upto_done, upto_last, upto_more, upto_start, upto_stop}
+pub use Rattle.rpm_outside.proofs.laws.Upto.{both, first_stops, Upto, upto_done, upto_last, upto_more, upto_start, upto_stop}
 pub use Rattle.rpm_qfeval.specs.Dates.{day_number, four, last_begun, month_name, spaced_number, two, weekday_name, weekday_names}
 unfoldable pub use Rattle.rpm_qfeval.specs.Dates.{day_of, HasDate, month_of, year_of}
 pub use Rattle.rpm_qfeval.specs.Formatters.{blob_text, number_text, or_none, shown_element, text_text}

@@ -8,7 +8,7 @@ use Rattle.rpm_effects.specs.Steps.{ToErr}
 use Rattle.rpm_effects.specs.Texts.{absent_line}
 use Rattle.rpm_file.specs.declared.fault.FileFault.TheVariants as file
 use Rattle.rpm_effects.specs.declared.tally.Halt.TheVariants as halt
-use Rattle.rpm_effects.specs.laws.Reaching.{not_begun}
+use Rattle.rpm_effects.proofs.laws.Reaching.{not_begun}
 
 -- what is printed of a package file, a line where it isn't there
 abbrev pub found_part : Tree → ℕ → List ℕ → Option (List ℕ) → Portion

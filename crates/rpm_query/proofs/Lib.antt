@@ -5,3 +5,4 @@ mod Picking
 mod Questions
 mod Turns
 pub mod Vocabulary
+pub mod laws

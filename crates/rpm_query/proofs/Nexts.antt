@@ -2,9 +2,9 @@
 use Rattle.std.proofs.Common.{◌≡◌, ℕ, ◌||◌, Bool, true, false, not, List, [], ◌∷◌, map, Option, Result, Ok, Err, refl, sym, ap, ◌∙◌, subst}
 use Rattle.rpm_query.proofs.Vocabulary.{above, Bearer, bearer_of, Files, Halt, is_bad, is_some_of, list_any, NextNumberIs, outputs, Package, packages}
 use Rattle.rpm_query.proofs.Vocabulary.{packages_part, PartIs, PickFault, picks, Reach, Recalls, Recent, Selection, Serves, Step, StepIs, Store}
-use Rattle.rpm_print.specs.laws.Printed.{fails_more, some_more, none_more}
-use Rattle.rpm_effects.specs.laws.Reaching.{StepsSoFar, goes_start, goes_more, goes_stop, goes_end}
-use Rattle.rpm_effects.specs.laws.Stopping.{reached_first}
+use Rattle.rpm_print.proofs.laws.Printed.{fails_more, some_more, none_more}
+use Rattle.rpm_effects.proofs.laws.Reaching.{StepsSoFar, goes_start, goes_more, goes_stop, goes_end}
+use Rattle.rpm_effects.proofs.laws.Stopping.{reached_first}
 
 module _ (sel : Selection) (s : Store) (n : ℕ) (p : Reach) {f f' : Files} (files : f ≡ f') where
   -- what is next of the files as they read is next of the files as they were

@@ -9,10 +9,10 @@ use Rattle.rpm_query.proofs.Vocabulary.{answered_part, argument_part, argument_r
 use Rattle.rpm_query.proofs.Vocabulary.{packages, packages_in, PartIs, OnlyReadsIndexed, picks, Pkg, pkg_read, question_of, reach, Reach, reach_all, ReadsOf}
 use Rattle.rpm_query.proofs.Vocabulary.{Recalls, Recent, store_of}
 use Rattle.rpm_query.proofs.Vocabulary.{Selection, Serves, Tree}
-use Rattle.rpm_effects.specs.laws.Parts.{part_reads}
-use Rattle.rpm_print.specs.laws.Peeking.{peeks_index, peeks_packages, peeks_then}
+use Rattle.rpm_effects.proofs.laws.Parts.{part_reads}
+use Rattle.rpm_print.proofs.laws.Peeking.{peeks_index, peeks_packages, peeks_then}
 use Rattle.rpm_query.proofs.Questions.{picked_is, reach_is}
-use Rattle.rpm_print.specs.laws.Reached.{served}
+use Rattle.rpm_print.proofs.laws.Reached.{served}
 
 module _ {D : Type 0} (d : disk.Ghosts D) (db : Database) (chosen : Chosen) (text : Bor (List ℕ)) {x y : D} {sel : Selection} {p : Reach}
     (asked : question_of chosen text ≡ Some sel) (looks : OnlyReadsFile d Idx x y)

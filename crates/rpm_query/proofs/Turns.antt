@@ -6,11 +6,11 @@ use Rattle.std.proofs.Common.{◌≡◌, ℕ, ◌+◌, ◌≤◌, Bool, true, fa
 use Rattle.std.proofs.Common.{subst, arith}
 use Rattle.std.specs.Prelude.{slice_get}
 use Rattle.rpm_effects.specs.Portions.{before_others, parts_in_turn}
-use Rattle.rpm_effects.specs.laws.Parts.{drop_get, went_stop}
-use Rattle.rpm_print.specs.laws.Reached.{rows_at}
-use Rattle.rpm_effects.specs.laws.Reaching.{StepsSoFar, goes_start, goes_more, goes_stop}
-use Rattle.rpm_effects.specs.laws.Stopping.{reached_reads}
-use Rattle.rpm_query.specs.laws.Sums.{reads_by, before_next, before_some, get_map}
+use Rattle.rpm_effects.proofs.laws.Parts.{drop_get, went_stop}
+use Rattle.rpm_print.proofs.laws.Reached.{rows_at}
+use Rattle.rpm_effects.proofs.laws.Reaching.{StepsSoFar, goes_start, goes_more, goes_stop}
+use Rattle.rpm_effects.proofs.laws.Stopping.{reached_reads}
+use Rattle.rpm_query.proofs.laws.Sums.{reads_by, before_next, before_some, get_map}
 
 -- ---- what is done for them
 

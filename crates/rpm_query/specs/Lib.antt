@@ -3,4 +3,3 @@ pub mod Prelude
 pub mod Queries
 pub mod Reach
 pub mod inner
-pub mod laws

@@ -8,10 +8,10 @@ use Rattle.rpm_report.proofs.Vocabulary.{PartProgress}
 use Rattle.rpm_report.proofs.Vocabulary.{Step, Through}
 use Rattle.rpm_select.specs.Frame.{HasKeptRows}
 use Rattle.std.proofs.lemmas.List.{append-nil}
-use Rattle.rpm_report.specs.laws.Checked.{broken_stops, lawful_stops}
-use Rattle.rpm_print.specs.laws.Reached.{rows_at}
-use Rattle.rpm_effects.specs.laws.Reaching.{through_none, through_more, goes_start, goes_stop}
-use Rattle.rpm_effects.specs.laws.Stopping.{reached_unsunk}
+use Rattle.rpm_report.proofs.laws.Checked.{broken_stops, lawful_stops}
+use Rattle.rpm_print.proofs.laws.Reached.{rows_at}
+use Rattle.rpm_effects.proofs.laws.Reaching.{through_none, through_more, goes_start, goes_stop}
+use Rattle.rpm_effects.proofs.laws.Stopping.{reached_unsunk}
 
 -- what stops the second stops both
 both_stop : (ot et : Bool) (p q : List Step) (T T' : Type 0) (what : Halt) (o o' o'' e e' e'' : List ℕ) → Through p (outputs ot o et e) (outputs ot o' et e')

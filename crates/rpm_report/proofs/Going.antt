@@ -4,7 +4,7 @@ use Rattle.std.specs.Prelude.{IsTrue}
 use Rattle.rpm_outside.specs.declared.disk.Disk as disk
 use Rattle.rpm_outside.specs.declared.sink.Sink as sink
 use Rattle.rpm_report.proofs.Vocabulary.{Anywhere, Buffered, Files, Halt, inner, outputs, OutTakes, PartProgress, Step, TellsOut, Through}
-use Rattle.rpm_effects.specs.laws.Reaching.{StepsSoFar, goes_start, goes_more, goes_stop, goes_end}
+use Rattle.rpm_effects.proofs.laws.Reaching.{StepsSoFar, goes_start, goes_more, goes_stop, goes_end}
 use Rattle.rpm_report.proofs.SoFar.{SoFar, so_far_none, so_far_more, so_far_stops, so_far_ends}
 
 module _ {D S : Type 0} (d : disk.Ghosts D) (s : sink.Ghosts S) where

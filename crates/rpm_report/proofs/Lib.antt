@@ -9,3 +9,4 @@ mod SoFar
 mod Steps
 mod Telling
 pub mod Vocabulary
+pub mod laws

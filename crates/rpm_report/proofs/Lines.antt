@@ -2,7 +2,7 @@
 use Rattle.std.proofs.Common.{◌≡◌, ◌≤◌, Bool, List, [], ◌∷◌, map, Ok, Err, refl, sym, ap, ◌∙◌, subst, arith}
 use Rattle.rpm_outside.specs.declared.sink.Sink as sink
 use Rattle.rpm_report.proofs.Vocabulary.{Bearer, Buffered, fails, Halt, Hand, inner, is_some_of, PartIs, PartProgress, shown_outputs, Step, Through, together}
-use Rattle.rpm_effects.specs.laws.Reaching.{StepsSoFar, goes_start, goes_more, goes_stop, goes_end}
+use Rattle.rpm_effects.proofs.laws.Reaching.{StepsSoFar, goes_start, goes_more, goes_stop, goes_end}
 
 failing_steps : (steps : List Step) → (together (map fails steps)).steps ≡ steps
 failing_steps [] = refl

@@ -14,7 +14,7 @@ use Rattle.std.proofs.lemmas.List.{append-nil, get_or-take, map-append, take-app
 use Rattle.std.proofs.lemmas.List.Folds.{flat_map-map, length-prefix_len}
 use Rattle.std.proofs.lemmas.List.Sums.{prefix_len_passes}
 use Rattle.rpm_effects.specs.declared.tally.Halt.TheVariants as halt
-use Rattle.rpm_effects.specs.laws.Reaching.{not_begun}
+use Rattle.rpm_effects.proofs.laws.Reaching.{not_begun}
 
 -- ---- lines in one piece
 

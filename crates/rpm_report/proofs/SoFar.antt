@@ -5,7 +5,7 @@ use Rattle.rpm_outside.specs.declared.sink.Sink as sink
 use Rattle.rpm_report.proofs.Vocabulary.{Buffered, DiskFault, OnlyReadsBoth, Halt, Hand, inner, Rose, OnlyReadsIndexed}
 use Rattle.rpm_effects.specs.declared.tally.Halt.TheVariants as halt
 use Rattle.rpm_print.specs.Frame.{OnlyReadsIndexed, TellsTo}
-use Rattle.rpm_print.specs.laws.Peeking.{peeks_none, peeks_then}
+use Rattle.rpm_print.proofs.laws.Peeking.{peeks_none, peeks_then}
 
 abbrev failed : (T : Type 0) → Halt → Result T Halt
 failed T what = Err what

@@ -7,7 +7,7 @@ use Rattle.rpm_report.proofs.Vocabulary.{nat_cmp, Outputs, Package, package_of, 
 use Rattle.rpm_report.proofs.Vocabulary.{whole_step}
 use Rattle.std.proofs.lemmas.Bool.Decides.{nat_tests}
 use Rattle.std.specs.FinMap as finite
-use Rattle.rpm_effects.specs.laws.Stopping.{reached_first, reached_reads}
+use Rattle.rpm_effects.proofs.laws.Stopping.{reached_first, reached_reads}
 
 -- ---- a package
 

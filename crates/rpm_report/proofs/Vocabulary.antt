@@ -11,8 +11,8 @@ pub use Rattle.rpm_check.specs.declared.list.Unmet.{Unmet}
 pub use Rattle.rpm_select.specs.Needs.{needed_in}
 pub use Rattle.rpm_db.specs.Database.{packages_cost_to, Database}
 pub use Rattle.rpm_db.specs.Database.{store_of}
-pub use Rattle.rpm_db.specs.laws.Own.{header-own}
-pub use Rattle.rpm_db.specs.laws.PackageLaws.{cost_more, cost_some}
+pub use Rattle.rpm_db.proofs.laws.Own.{header-own}
+pub use Rattle.rpm_db.proofs.laws.PackageLaws.{cost_more, cost_some}
 pub use Rattle.rpm_db.specs.State.{Bad, Good, header_or, Package, package_of}
 pub use Rattle.rpm_db.specs.laws.Parts.{read_as}
 unfoldable pub use Rattle.rpm_db.specs.State.{packages}
@@ -29,7 +29,7 @@ pub use Rattle.rpm_outside.specs.Files.{Files}
 pub use Rattle.rpm_outside.specs.Sinks.{GainIs}
 pub use Rattle.rpm_outside.specs.declared.buffered.Buffered.{Buffered}
 pub use Rattle.rpm_outside.specs.declared.disk.File.TheVariants.{Pkg}
-pub use Rattle.rpm_outside.specs.laws.Looking.{looks_more, looks_none, looks_then}
+pub use Rattle.rpm_outside.proofs.laws.Looking.{looks_more, looks_none, looks_then}
 pub use Rattle.rpm_effects.specs.Answers.{PartIs, PartProgress, StepIs, CommandProgress}
 pub use Rattle.rpm_select.specs.Picks.{is_some_of}
 pub use Rattle.rpm_outside.specs.Frame.{DiskFault, OnlyReads}

@@ -4,4 +4,3 @@ pub mod Prelude
 pub mod Reports
 pub mod Requirements
 pub mod inner
-pub mod laws

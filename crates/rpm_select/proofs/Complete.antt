@@ -32,8 +32,8 @@ use Rattle.rpm_select.specs.Selections.{needed_by, is_text_among, takes_header}
 use Rattle.rpm_select.specs.laws.Parts.{tags, has_any, is_text, takes_read}
 use Rattle.rpm_select.specs.Selections.{is_picked}
 use Rattle.rpm_select.proofs.Cuts.{label_begins}
-use Rattle.rpm_select.specs.laws.Keyed.{or_left, or_right, or_cases, same_bytes, are_same, first_among, named, zipped}
-use Rattle.rpm_select.specs.laws.Keyed.{numbered}
+use Rattle.rpm_select.proofs.laws.Keyed.{or_left, or_right, or_cases, same_bytes, are_same, first_among, named, zipped}
+use Rattle.rpm_select.proofs.laws.Keyed.{numbered}
 
 -- one key among others
 only : (b : Bool) → b ≡ true → (b || false) ≡ true

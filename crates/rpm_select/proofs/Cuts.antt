@@ -18,7 +18,7 @@ use Rattle.rpm_select.specs.Labels.{without_bytes, with_arch, with_version}
 use Rattle.rpm_select.specs.inner.Labelled.{is_dash_or_dot, with_release}
 use Rattle.rpm_select.specs.inner.Labelled.{with_name}
 use Rattle.rpm_select.specs.Selections.{is_text_among}
-use Rattle.rpm_select.specs.laws.Keyed.{or_left, or_right, or_cases, same_bytes, are_same}
+use Rattle.rpm_select.proofs.laws.Keyed.{or_left, or_right, or_cases, same_bytes, are_same}
 
 -- The byte of a dot.
 abbrev is_dot : ℕ → Bool

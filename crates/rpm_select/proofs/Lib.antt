@@ -23,3 +23,4 @@ pub mod Vocabulary
 pub mod Within
 pub mod Complete
 pub mod Cuts
+pub mod laws

@@ -1,12 +1,12 @@
 -- The words of proofs, from one place.
-pub use Rattle.rpm_db.specs.laws.Above.{both_true, is_below, next_above, none_below}
+pub use Rattle.rpm_db.proofs.laws.Above.{both_true, is_below, next_above, none_below}
 pub use Rattle.rpm_db.specs.Answers.{key_chain}
 pub use Rattle.rpm_db.specs.Database.{package_cost, packages_cost_to, Database, is_indexed, IsNext, Keeps, KeepsIndex}
 pub use Rattle.rpm_db.specs.Frame.{IsStoreKept}
 pub use Rattle.rpm_db.specs.Database.{store_of}
 pub use Rattle.rpm_db.specs.Lawful.{HasRows}
-pub use Rattle.rpm_db.specs.laws.PackageLaws.{cost_more, cost_some, cost_up, is_there}
-pub use Rattle.rpm_db.specs.laws.RowLaws.{times-rows}
+pub use Rattle.rpm_db.proofs.laws.PackageLaws.{cost_more, cost_some, cost_up, is_there}
+pub use Rattle.rpm_db.proofs.laws.RowLaws.{times-rows}
 pub use Rattle.rpm_db.specs.Rows.{kinds, rows, rows_at}
 pub use Rattle.rpm_db.specs.laws.Parts.{key_row, kind_rows, rows_read}
 unfoldable pub use Rattle.rpm_db.specs.Rows.{header_rows}
@@ -22,7 +22,7 @@ pub use Rattle.rpm_hindex.specs.declared.hits.Hit.{Hit}
 pub use Rattle.rpm_outside.specs.Files.{Files, Units}
 pub use Rattle.rpm_outside.specs.Looks.{OnlyReads, OnlyReadsFile}
 pub use Rattle.rpm_outside.specs.declared.disk.File.TheVariants.{Idx, Pkg}
-pub use Rattle.rpm_outside.specs.laws.Looking.{looks_more, looks_none, looks_then}
+pub use Rattle.rpm_outside.proofs.laws.Looking.{looks_more, looks_none, looks_then}
 pub use Rattle.rpm_select.specs.Candidates.{cut_text, has_keys, keys_asked, names_in}
 pub use Rattle.rpm_select.specs.laws.Parts.{has_header_key, has_key_in, is_candidate}
 unfoldable pub use Rattle.rpm_select.specs.Candidates.{candidates}
@@ -48,15 +48,15 @@ pub use Rattle.rpm_select.specs.declared.recent.Recent.{Recent}
 pub use Rattle.rpm_select.specs.declared.selection.Selection.{Selection}
 pub use Rattle.rpm_select.specs.declared.selection.Selection.TheVariants.{All, Conflicts, Directory, Group, Label, Number, Obsoletes, Path, Pattern, Provides}
 pub use Rattle.rpm_select.specs.declared.selection.Selection.TheVariants.{Recommends, Requires, Tid, Trigger}
-pub use Rattle.rpm_select.specs.laws.Among.{among, not_among}
+pub use Rattle.rpm_select.proofs.laws.Among.{among, not_among}
 pub use Rattle.rpm_select.specs.inner.Asking.{NumbersOfKey, AreWith, has_row, is_byte, is_row_of}
 pub use Rattle.rpm_select.proofs.Complete.{complete}
-pub use Rattle.rpm_select.specs.laws.Costing.{reach_more, reach_some, reach_up}
-pub use Rattle.rpm_select.specs.laws.Keyed.{or_cases, or_left, or_right}
+pub use Rattle.rpm_select.proofs.laws.Costing.{reach_more, reach_some, reach_up}
+pub use Rattle.rpm_select.proofs.laws.Keyed.{or_cases, or_left, or_right}
 pub use Rattle.rpm_select.specs.inner.Members.{first_has, first_len}
 pub use Rattle.rpm_select.specs.inner.Pieces.{is_close, pieces, written_in}
 pub use Rattle.rpm_select.specs.inner.Reaching.{reach_of}
-pub use Rattle.rpm_select.specs.laws.Rising.{AreAbove, commute, Rises, rises, same_members}
+pub use Rattle.rpm_select.proofs.laws.Rising.{AreAbove, commute, Rises, rises, same_members}
 pub use Rattle.rpm_select.specs.inner.Single.{OneIs, OneOf}
 pub use Rattle.rpm_select.specs.inner.Unclosed.{IsUnclosed}
 pub use Rattle.rpm_select.specs.inner.Within.{upper_end, NextWithin}

@@ -1,7 +1,3 @@
 -- What crates above cite, and what it is proved by.
-pub mod Among
-pub mod Costing
-pub mod Keyed
 pub mod Parts
-pub mod Rising
 pub mod Unindexed

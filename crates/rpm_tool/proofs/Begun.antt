@@ -9,7 +9,7 @@ use Rattle.rpm_words.specs.declared.ask.Mode.TheVariants as mode
 use Rattle.rpm_effects.specs.declared.answer.Why.TheVariants as why
 use Rattle.rpm_tool.proofs.Requests.{does_memory}
 use Rattle.rpm_tool.proofs.Loading.{loaded_memory}
-use Rattle.rpm_effects.specs.laws.Reaching.{through_none}
+use Rattle.rpm_effects.proofs.laws.Reaching.{through_none}
 
 -- where memory was wanting before, its database has not been opened
 pub not_begun : (tree : Tree) (words : List (List ℕ)) (a : AskParts) (files : Files) (out_tells err_tells : Bool) (o e : List ℕ) (n : ℕ)

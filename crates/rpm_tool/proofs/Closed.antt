@@ -3,7 +3,7 @@ use Rattle.std.proofs.Common.{◌≡◌, ◌≤◌, List, ℕ, Result, sym, ◌�
 use Rattle.std.proofs.Math.Nat.{le_trans}
 use Rattle.rpm_outside.specs.declared.sink.Sink as sink
 use Rattle.rpm_tool.proofs.Vocabulary.{Closes, ClosingEnding, HasCauseAt, Outputs, outs, Writes}
-use Rattle.rpm_print.specs.laws.Printing.{closes_of}
+use Rattle.rpm_print.proofs.laws.Printing.{closes_of}
 
 module _ {T F O E : Type 0} (o : sink.Ghosts O) (e : sink.Ghosts E) (line : List ℕ) (result : Result T F) (out out_new : O)
     (start mid late err err_new : E) (first : start ≡ err) (later : e.faults start ≤ e.faults mid) (closing : Writes e mid late line result)

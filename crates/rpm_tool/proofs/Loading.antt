@@ -3,7 +3,7 @@ use Rattle.std.proofs.Common.{ℕ, ◌+◌, ◌≤◌, true, false, [], Result, 
 use Rattle.rpm_tool.proofs.Vocabulary.{Bearer, Course, Damage, StoreAnswerBy, IsSound, LogAnswer, LogState, Malformed, StoreAnswer, Outputs, RefusalIs, Store, Through}
 use Rattle.rpm_tool.proofs.Vocabulary.{CommandProgress, Why}
 use Rattle.rpm_effects.specs.declared.answer.Why.TheVariants as why
-use Rattle.rpm_effects.specs.laws.Stopping.{within_reads}
+use Rattle.rpm_effects.proofs.laws.Stopping.{within_reads}
 
 module _ (Do : StoreAnswerBy) (s : Result Store Damage) where
   -- nothing was done, for a fault of the disk or for want of memory

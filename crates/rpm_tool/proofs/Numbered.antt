@@ -12,8 +12,8 @@ use Rattle.rpm_effects.specs.Steps.{Step, bearer_of}
 use Rattle.rpm_effects.specs.Portions.{parts_in_turn, numbers_of_steps}
 use Rattle.rpm_tool.specs.Requests.{steps_above}
 use Rattle.rpm_tool.specs.inner.Words.{is_above}
-use Rattle.rpm_print.specs.laws.Printed.{bearer-step_of}
-use Rattle.rpm_query.specs.laws.Rising.{rises_above}
+use Rattle.rpm_print.proofs.laws.Printed.{bearer-step_of}
+use Rattle.rpm_query.proofs.laws.Rising.{rises_above}
 
 told_numbers : (tree : Tree) (j : ℕ) (es : List (ℕ × Package)) → numbers_of_steps (map (step_of tree j) es) ≡ map (λ e. e.0) es
 told_numbers tree j [] = refl

@@ -10,7 +10,7 @@ use Rattle.std.proofs.Common.{◌≡◌, ℕ, ◌≤◌, Bool, true, false, not,
 use Rattle.std.specs.Prelude.{IsTrue, ◌⊎◌}
 use Rattle.std.proofs.lemmas.Bool.{cases_Bool}
 use Rattle.rpm_effects.specs.declared.answer.Why.TheVariants as why
-use Rattle.rpm_query.specs.laws.Sums.{store_by, store_sum}
+use Rattle.rpm_query.proofs.laws.Sums.{store_by, store_sum}
 
 -- ---- a run of calls that opened the database, and then looked things up
 

@@ -13,14 +13,14 @@ use Rattle.std.specs.Option.{option_map_or}
 use Rattle.rpm_effects.specs.Hands.{Hand, EndHands}
 use Rattle.rpm_effects.specs.declared.answer.Why.TheVariants as why
 use Rattle.rpm_tool.proofs.Begun.{change_untold, files_unchanging, files_unkeyed, files_untold, keyed_unchanging, keyed_untold, not_begun, unforeign}
-use Rattle.rpm_commit.specs.laws.Emptied.{memory_empty}
-use Rattle.rpm_print.specs.laws.Peeking.{leaves_none}
-use Rattle.rpm_effects.specs.laws.Reaching.{not_begun as no_step, through_none}
+use Rattle.rpm_commit.proofs.laws.Emptied.{memory_empty}
+use Rattle.rpm_print.proofs.laws.Peeking.{leaves_none}
+use Rattle.rpm_effects.proofs.laws.Reaching.{not_begun as no_step, through_none}
 use Rattle.rpm_tool.proofs.Faults.{never_cause}
 use Rattle.rpm_tool.proofs.Recovered.{unbegun}
 use Rattle.rpm_tool.proofs.Undone.{asked_is, asked_some, same_asked}
-use Rattle.rpm_commit.specs.laws.Unmade.{idle_run, unmade_one}
-use Rattle.rpm_group.specs.laws.KeptLogs.{same_kept}
+use Rattle.rpm_commit.proofs.laws.Unmade.{idle_run, unmade_one}
+use Rattle.rpm_group.proofs.laws.KeptLogs.{same_kept}
 
 clash : {P : Type 0} {b : _} → b ≡ true → b ≡ false → P
 clash is not = let both : true ≡ false = sym is ∙ not in absurd cc

@@ -11,7 +11,7 @@ use Rattle.rpm_tool.proofs.Vocabulary.{OnUsable, StoreAnswer, Outputs, outputs, 
 use Rattle.rpm_tool.proofs.Vocabulary.{ReopensAsOneOf, store_of, IsLawfulAndSame, started, Store, store, Through, Tree, Units, units_needed, without_log, Why}
 use Rattle.rpm_db.specs.Openings.{FullOpenIs, OpeningReads, OpensAs, WritesNothing}
 use Rattle.rpm_db.specs.Runs.{ImageFrom}
-use Rattle.rpm_group.specs.laws.KeptLogs.{same_kept, sound_kept}
+use Rattle.rpm_group.proofs.laws.KeptLogs.{same_kept, sound_kept}
 use Rattle.rpm_db.specs.declared.open_fault.DbOpenFault.{DbOpenFault}
 use Rattle.rpm_db.specs.declared.open_fault.DbOpenFault.TheVariants as opening
 use Rattle.rpm_tool.specs.Keyed.{OpenedAnswer}
@@ -22,9 +22,9 @@ use Rattle.rpm_tool.proofs.Requests.{does_fault, does_memory, does_reads, does_u
 use Rattle.rpm_tool.proofs.Endings.{full_opened, unrefused, went_by}
 use Rattle.rpm_tool.proofs.Loading.{loaded_memory, opened_fault, opened_memory}
 use Rattle.rpm_tool.proofs.OpeningLaws.{bad_opened, keyed_by, keyed_sum, opened_index, opened_rows}
-use Rattle.rpm_effects.specs.laws.Reaching.{through_none}
-use Rattle.rpm_commit.specs.laws.Recovered.{recovered_sound, recovering_packages, recovering_still}
-use Rattle.rpm_commit.specs.laws.Standing.{shut_lawful, shut_stands}
+use Rattle.rpm_effects.proofs.laws.Reaching.{through_none}
+use Rattle.rpm_commit.proofs.laws.Recovered.{recovered_sound, recovering_packages, recovering_still}
+use Rattle.rpm_commit.proofs.laws.Standing.{shut_lawful, shut_stands}
 use Rattle.rpm_tool.proofs.Unrecovered.{loaded_by}
 
 module _ (tree : Tree) (words : List (List ℕ)) (a : AskParts) where

@@ -6,12 +6,12 @@ use Rattle.rpm_tool.proofs.Vocabulary.{Units, unless_starved, unsatisfied_part, 
 use Rattle.rpm_words.specs.declared.ask.Mode.TheVariants as mode
 use Rattle.rpm_effects.specs.declared.answer.Why.TheVariants as why
 use Rattle.rpm_command.specs.declared.reading.Request.TheVariants as request
-use Rattle.rpm_commit.specs.laws.ByEnding.{by_starved}
+use Rattle.rpm_commit.proofs.laws.ByEnding.{by_starved}
 use Rattle.rpm_effects.specs.Portions.{before_others}
 use Rattle.rpm_effects.specs.Steps.{idle}
 use Rattle.rpm_tool.proofs.Loading.{went_reads}
-use Rattle.rpm_report.specs.laws.Reporting.{none_listed}
-use Rattle.rpm_effects.specs.laws.Reaching.{not_begun}
+use Rattle.rpm_report.proofs.laws.Reporting.{none_listed}
+use Rattle.rpm_effects.proofs.laws.Reaching.{not_begun}
 
 -- and neither is a query
 pub query_request : (m : Mode) → is_query m ≡ true → always_keyed (request_of m) ≡ false

@@ -12,7 +12,7 @@ pub use Rattle.rpm_db.specs.Database.{Database, is_blank_database, is_indexed, w
 pub use Rattle.rpm_db.specs.Database.{store_of}
 pub use Rattle.rpm_db.specs.Lawful.{AreLawful, IsLawful, IsLawfulStill, Remade}
 pub use Rattle.rpm_db.specs.Openings.{IsOpened, must_rebuild, units_needed}
-pub use Rattle.rpm_db.specs.laws.RoomLaws.{blank_unpaged, kept_current, made_paged}
+pub use Rattle.rpm_db.proofs.laws.RoomLaws.{blank_unpaged, kept_current, made_paged}
 pub use Rattle.rpm_db.specs.State.{above, Package}
 unfoldable pub use Rattle.rpm_db.specs.State.{packages}
 pub use Rattle.rpm_group.specs.Layers.{laid_files}
@@ -28,15 +28,15 @@ pub use Rattle.rpm_outside.specs.Logs.{Closed, log_state, LogState, Malformed, r
 pub use Rattle.rpm_outside.specs.SinkFrame.{Writes}
 pub use Rattle.rpm_outside.specs.declared.buffered.Buffered.{Buffered}
 pub use Rattle.rpm_outside.specs.declared.disk.File.TheVariants.{Idx, Pkg}
-pub use Rattle.rpm_outside.specs.laws.Looking.{looks_then}
-pub use Rattle.rpm_outside.specs.laws.Moments.{leaves_then, leaves_weaker, started}
+pub use Rattle.rpm_outside.proofs.laws.Looking.{looks_then}
+pub use Rattle.rpm_outside.proofs.laws.Moments.{leaves_then, leaves_weaker, started}
 pub use Rattle.rpm_pkgdb.specs.Store.{Store, store}
 pub use Rattle.rpm_pkgdb.specs.declared.slot.Damage.{Damage}
 pub use Rattle.rpm_effects.specs.Answers.{ClosingEnding, RefusalIs, CommandProgress}
-pub use Rattle.rpm_effects.specs.laws.Closing.{Closes}
+pub use Rattle.rpm_effects.proofs.laws.Closing.{Closes}
 pub use Rattle.rpm_command.specs.Answers.{Undone}
 pub use Rattle.rpm_command.specs.Asked.{always_keyed, by_key, request_of, is_query, needs_no_index, of_files}
-pub use Rattle.rpm_command.specs.laws.Asking.{changes_in, command_and_format, format_in, is_package, opens_index, task_in}
+pub use Rattle.rpm_command.proofs.laws.Asking.{changes_in, command_and_format, format_in, is_package, opens_index, task_in}
 unfoldable pub use Rattle.rpm_command.specs.Asked.{asks, asks_change, asks_format}
 pub use Rattle.rpm_effects.specs.Classes.{is_done, is_done_or_outside, is_foreign, is_of_opening, is_of_streams, is_of_words, is_refusal}
 unfoldable pub use Rattle.rpm_print.specs.Closing.{closing}
@@ -52,7 +52,7 @@ pub use Rattle.rpm_command.specs.declared.reading.Request.{Request}
 pub use Rattle.rpm_qfparse.specs.Tree.{Tree}
 pub use Rattle.rpm_qfparse.specs.declared.fault.FormatFault.{FormatFault}
 pub use Rattle.rpm_query.specs.Queries.{answered_part, AreQuestions, argument_part, export, lent, query, query_of, question_of}
-pub use Rattle.rpm_query.specs.laws.Answering.{is_question, picked_by}
+pub use Rattle.rpm_query.proofs.laws.Answering.{is_question, picked_by}
 unfoldable pub use Rattle.rpm_query.specs.Queries.{missing_part, picked_packages}
 unfoldable pub use Rattle.rpm_query.specs.Reach.{argument_reach}
 pub use Rattle.rpm_report.specs.FileReport.{check_files}
@@ -79,7 +79,7 @@ pub use Rattle.rpm_words.specs.Words.{word_at}
 pub use Rattle.rpm_words.specs.declared.ask.Mode.{Mode}
 pub use Rattle.rpm_words.specs.declared.fault.WordsFault.{WordsFault}
 pub use Rattle.rpm_words.specs.declared.switch.Chosen.{Chosen}
-pub use Rattle.rpm_words.specs.laws.Given.{fit_arguments}
+pub use Rattle.rpm_words.proofs.laws.Given.{fit_arguments}
 pub use Rattle.std.specs.List.{AllByRecursion, cons_option}
 pub use Rattle.std.specs.Option.{is_none, option_map}
 pub use Rattle.std.specs.Ordering.{nat_cmp}

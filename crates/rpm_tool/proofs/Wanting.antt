@@ -3,8 +3,8 @@ use Rattle.std.specs.Prelude.{IsTrue, ◌↔◌}
 use Rattle.rpm_tool.proofs.Vocabulary.{Damage, RefusalIs, Rose, unless_starved, Why}
 use Rattle.std.proofs.Common.{◌≡◌, ℕ, zero, suc, ◌+◌, ◌<◌, ◌≤◌, Bool, true, false, refl, arith}
 use Rattle.rpm_effects.specs.declared.answer.Why.TheVariants as why
-use Rattle.rpm_commit.specs.laws.ByEnding.{by_starved}
-use Rattle.rpm_commit.specs.laws.Starved.{starved_fault}
+use Rattle.rpm_commit.proofs.laws.ByEnding.{by_starved}
+use Rattle.rpm_commit.proofs.laws.Starved.{starved_fault}
 
 -- want of memory in place of a fault of the disk
 pub refused_starved : (starved : Bool) (w : Why) (d : Damage) → RefusalIs d w → RefusalIs d (unless_starved starved w)

@@ -14,7 +14,7 @@ use rpm_words::{Ask, Words};
 use std::alloc::Global;
 
 /// The ending of a report, of whether its one argument failed.
-#[tactic(auto, using(rpm_effects::specs::laws::Halts::of_report))]
+#[tactic(auto, using(rpm_effects::proofs::laws::Halts::of_report))]
 fn why_of_report(told: Result<bool, Halt>) -> Why
     requires class { IfErr told IsOfPrint }
     ensures value { result ≡ why_of_report told }

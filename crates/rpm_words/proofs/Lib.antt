@@ -14,3 +14,4 @@ pub mod Told
 pub mod Within
 pub mod Vocabulary
 pub mod Numbered
+pub mod laws

@@ -19,7 +19,7 @@ use Rattle.rpm_words.specs.Place.{program_of}
 use Rattle.rpm_words.specs.Broken.{argument_fault, too_many}
 use Rattle.rpm_words.specs.Ask.{AskParts, asked_by, ask, IsNumber, HasNumbers}
 use Rattle.rpm_words.specs.inner.Commands.{command_of_mode}
-use Rattle.rpm_words.specs.laws.Given.{KeepsRules, kept_asked}
+use Rattle.rpm_words.proofs.laws.Given.{KeepsRules, kept_asked}
 
 number_there : (o : Option ℕ) (f : WordsFault) → (if is_none o then Some f else None) ≡ None → IsSome o
 number_there (Some n) f is = refl

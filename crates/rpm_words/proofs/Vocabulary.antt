@@ -42,7 +42,7 @@ pub use Rattle.rpm_words.specs.declared.token.Said.TheVariants.{Argument, Gives,
 pub use Rattle.rpm_words.specs.declared.token.Token.{Token}
 pub use Rattle.rpm_words.specs.declared.words.Span.{Span}
 pub use Rattle.rpm_words.specs.inner.Folder.{folder_behind, IsSpelled}
-pub use Rattle.rpm_words.specs.laws.Given.{command_word, fault_or, first_told, fit_asked}
+pub use Rattle.rpm_words.proofs.laws.Given.{command_word, fault_or, first_told, fit_asked}
 pub use Rattle.rpm_words.proofs.Numbered.{numbers_asked}
 pub use Rattle.rpm_words.proofs.Pieces.{argument_said, exercise_said, format_printed, has_equals, is_refused, misplaced_said, option_at, printed_said}
 pub use Rattle.rpm_words.proofs.Pieces.{within_exercise}

@@ -12,4 +12,3 @@ pub mod Takes
 pub mod Token
 pub mod Words
 pub mod inner
-pub mod laws

@@ -4,7 +4,7 @@ use Rattle.rpm_change.proofs.Vocabulary.{add_file, add_files, apply_all, err_is,
 use Rattle.rpm_change.proofs.Vocabulary.{in_turn, inner, none_went, Paths, state_in, went_as}
 use Rattle.rpm_change.proofs.Arguments.{turn_next, turn_none}
 use Rattle.rpm_change.proofs.Filed.{bytes, nothing}
-use Rattle.rpm_change.specs.laws.Owing.{owing_none, owing_then}
+use Rattle.rpm_change.proofs.laws.Owing.{owing_none, owing_then}
 use Rattle.rpm_change.proofs.add.add_each.Goals as goal
 
 pub loop-path-init : goal.loop-path-init

@@ -2,7 +2,7 @@ use Rattle.std.proofs.Common.{None}
 use Rattle.rpm_change.proofs.Vocabulary.{err_is, err_stopped}
 use Rattle.rpm_change.proofs.Erased.{erasing_puts, kind_of_index}
 use Rattle.rpm_change.proofs.Halted.{index_halts}
-use Rattle.rpm_change.specs.laws.Owing.{list_finished, list_stopped, list_unfinished, owing_begun}
+use Rattle.rpm_change.proofs.laws.Owing.{list_finished, list_stopped, list_unfinished, owing_begun}
 use Rattle.rpm_change.proofs.add.add_files.Goals as goal
 
 pub add_each-requires-clause-gathering : goal.add_each-requires-clause-gathering

@@ -2,7 +2,7 @@ use Rattle.std.proofs.Common.{refl, sym}
 use Rattle.rpm_change.proofs.Vocabulary.{absent_line, as_installed, bytes_at, change_at, course_of_change, course_of_failure, bytes_left, line_went, package_header, put_file, put_found}
 use Rattle.rpm_change.proofs.Vocabulary.{reading_went, refused_line, ToErr, took, went_as, whole_step}
 use Rattle.rpm_change.proofs.Filed.{opened_is, own_fault}
-use Rattle.rpm_change.specs.laws.Owing.{owing_none}
+use Rattle.rpm_change.proofs.laws.Owing.{owing_none}
 use Rattle.rpm_change.proofs.Stops.{stop_kind}
 use Rattle.rpm_change.proofs.add.put_file.Goals as goal
 

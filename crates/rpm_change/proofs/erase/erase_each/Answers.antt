@@ -2,7 +2,7 @@ use Rattle.std.proofs.Common.{◌+◌, get_or, drop, refl, arith}
 use Rattle.rpm_change.proofs.Vocabulary.{apply_all, erase, erase_one, err_is, err_joins, err_none, going_end, going_more, going_start, going_stop, hand_then, in_turn}
 use Rattle.rpm_change.proofs.Vocabulary.{inner, none_went, state_in}
 use Rattle.rpm_change.proofs.Arguments.{turn_next, turn_none}
-use Rattle.rpm_change.specs.laws.Owing.{owing_none, owing_then}
+use Rattle.rpm_change.proofs.laws.Owing.{owing_none, owing_then}
 use Rattle.rpm_change.proofs.erase.erase_each.Goals as goal
 
 pub loop-number-init : goal.loop-number-init

@@ -1,7 +1,7 @@
 use Rattle.rpm_change.proofs.Vocabulary.{err_is, err_stopped}
 use Rattle.rpm_change.proofs.Erased.{kind_of_index}
 use Rattle.rpm_change.proofs.Halted.{index_halts}
-use Rattle.rpm_change.specs.laws.Owing.{list_finished, list_stopped, list_unfinished, owing_begun}
+use Rattle.rpm_change.proofs.laws.Owing.{list_finished, list_stopped, list_unfinished, owing_begun}
 use Rattle.rpm_change.proofs.erase.erase_numbers.Goals as goal
 
 pub erase_each-requires-clause-gathering : goal.erase_each-requires-clause-gathering

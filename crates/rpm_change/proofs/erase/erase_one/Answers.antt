@@ -4,7 +4,7 @@ use Rattle.rpm_change.proofs.Vocabulary.{one_made, one_refused, resumed_database
 use Rattle.rpm_change.proofs.Dropped.{some_is}
 use Rattle.rpm_change.proofs.Erased.{erasing_whole, kind_of_erasing}
 use Rattle.rpm_change.proofs.Gathered.{rows_owed}
-use Rattle.rpm_change.specs.laws.Owing.{owing_none}
+use Rattle.rpm_change.proofs.laws.Owing.{owing_none}
 use Rattle.rpm_change.proofs.Halted.{erase_halts}
 use Rattle.rpm_change.proofs.erase.erase_one.Goals as goal
 

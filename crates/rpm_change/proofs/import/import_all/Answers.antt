@@ -2,7 +2,7 @@ use Rattle.std.proofs.Common.{◌≡◌, ◌+◌, true, false, refl, arith, ◌�
 use Rattle.rpm_change.proofs.Vocabulary.{err_is, err_joins, err_none, from_place, going_end, going_more, going_start, going_stop, hand_then}
 use Rattle.rpm_change.proofs.Vocabulary.{inner, bytes_left, list_course, list_head, none_went, state_in, turn}
 use Rattle.rpm_change.proofs.Listed.{turn_splits, turn_ahead, within_next}
-use Rattle.rpm_change.specs.laws.Owing.{owing_none, owing_then}
+use Rattle.rpm_change.proofs.laws.Owing.{owing_none, owing_then}
 use Rattle.rpm_change.proofs.import.import_all.Goals as goal
 
 pub loop-is_last-init : goal.loop-is_last-init

@@ -5,7 +5,7 @@ use Rattle.rpm_change.proofs.Vocabulary.{ToErr, went_as, whole_step}
 use Rattle.rpm_change.proofs.Filed.{opened_is}
 use Rattle.rpm_change.proofs.Halted.{index_halts}
 use Rattle.rpm_change.proofs.Imported.{once, went_once}
-use Rattle.rpm_change.specs.laws.Owing.{list_finished, list_stopped, list_unfinished, owing_begun}
+use Rattle.rpm_change.proofs.laws.Owing.{list_finished, list_stopped, list_unfinished, owing_begun}
 use Rattle.rpm_change.proofs.import.import_most.Goals as goal
 
 pub import_all-requires-clause-gathering : goal.import_all-requires-clause-gathering

@@ -1,7 +1,7 @@
 use Rattle.rpm_change.proofs.Vocabulary.{err_is, out_stopped}
 use Rattle.rpm_change.proofs.Erased.{index_rebuilds}
 use Rattle.rpm_change.proofs.Halted.{index_halts}
-use Rattle.rpm_change.specs.laws.Owing.{list_finished, list_stopped, list_unfinished, owing_begun}
+use Rattle.rpm_change.proofs.laws.Owing.{list_finished, list_stopped, list_unfinished, owing_begun}
 use Rattle.rpm_change.proofs.rebuilding.drop_all.Goals as goal
 
 pub drop_each-requires : goal.drop_each-requires

@@ -1,6 +1,6 @@
 use Rattle.std.proofs.Common.{[], ◌∷◌, Err, refl, ◌∙◌}
 use Rattle.rpm_change.proofs.Vocabulary.{Bad, bearer, dropped_course, dropped_line, Erase, err_is, none_by, out_gone, stopped_went, told_all, told_none, told_part}
-use Rattle.rpm_change.specs.laws.Owing.{owing_none}
+use Rattle.rpm_change.proofs.laws.Owing.{owing_none}
 use Rattle.rpm_effects.specs.declared.tally.Halt.TheVariants as halt
 use Rattle.rpm_change.proofs.rebuilding.drop_bad.Goals as goal
 

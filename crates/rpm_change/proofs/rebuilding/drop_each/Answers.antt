@@ -4,7 +4,7 @@ use Rattle.std.specs.FinMap as finite
 use Rattle.rpm_change.proofs.Vocabulary.{above, drop_each, dropped_course, err_is, going_end, going_more, going_start, going_stop, inner, none_went}
 use Rattle.rpm_change.proofs.Vocabulary.{out_joins, out_none, packages_in, rebuild, state_in, went_as}
 use Rattle.rpm_change.proofs.Dropped.{package_or, drop_next, drop_none, same_dropped}
-use Rattle.rpm_change.specs.laws.Owing.{owing_none, owing_then}
+use Rattle.rpm_change.proofs.laws.Owing.{owing_none, owing_then}
 use Rattle.rpm_change.proofs.rebuilding.drop_each.Goals as goal
 
 pub loop-next-init : goal.loop-next-init

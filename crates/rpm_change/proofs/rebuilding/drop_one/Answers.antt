@@ -2,7 +2,7 @@ use Rattle.std.proofs.Common.{◌≡◌, refl, Err}
 use Rattle.rpm_change.proofs.Vocabulary.{Bad, Good, dropped_course, EndedOnOut, idle, out_gone, out_joins, out_none, stopped_went, went_as, went_behind}
 use Rattle.rpm_effects.specs.declared.tally.Halt.TheVariants as halt
 use Rattle.rpm_change.proofs.Dropped.{gathering_looked, left_looked, looked_went}
-use Rattle.rpm_change.specs.laws.Owing.{owing_then}
+use Rattle.rpm_change.proofs.laws.Owing.{owing_then}
 use Rattle.rpm_change.proofs.rebuilding.drop_one.Goals as goal
 
 pub drop_bad-requires-clause-gathering : goal.drop_bad-requires-clause-gathering

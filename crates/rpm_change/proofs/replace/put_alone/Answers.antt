@@ -2,7 +2,7 @@ use Rattle.std.proofs.Common.{ℕ, Option, Some, None}
 use Rattle.rpm_change.proofs.Vocabulary.{Database, err_is, err_stopped, HasTarget, suspended_database}
 use Rattle.rpm_change.proofs.Erased.{erasing_puts, kind_of_index}
 use Rattle.rpm_change.proofs.Halted.{index_halts}
-use Rattle.rpm_change.specs.laws.Owing.{list_finished, list_stopped, list_unfinished, owing_begun}
+use Rattle.rpm_change.proofs.laws.Owing.{list_finished, list_stopped, list_unfinished, owing_begun}
 use Rattle.rpm_change.proofs.replace.put_alone.Goals as goal
 
 -- a package that is there is there while a batch goes on

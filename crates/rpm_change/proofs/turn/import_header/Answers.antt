@@ -4,7 +4,7 @@ use Rattle.rpm_change.proofs.Vocabulary.{Add, by_index, course_of_change, EndedO
 use Rattle.rpm_change.proofs.Vocabulary.{place_fails, resumed_database, store_of, state_in, through_none, took, turn_found, went_as, whole_step}
 use Rattle.rpm_change.proofs.Gathered.{rows_owed}
 use Rattle.rpm_change.proofs.Imported.{add_limits}
-use Rattle.rpm_change.specs.laws.Owing.{owing_none}
+use Rattle.rpm_change.proofs.laws.Owing.{owing_none}
 use Rattle.rpm_change.proofs.turn.import_header.Goals as goal
 
 pub returns-then-most-place-clause-went : goal.returns-then-most-place-clause-went

@@ -1,7 +1,7 @@
 use Rattle.std.proofs.Common.{take, refl}
 use Rattle.rpm_change.proofs.Vocabulary.{EndedOnErr, err_is, err_none, idle, bytes_left, line_went, list_head, none_went, place_fails, reading_went, state_in, turn}
 use Rattle.rpm_change.proofs.Vocabulary.{turn_found, went_as, whole_step}
-use Rattle.rpm_change.specs.laws.Owing.{owing_none}
+use Rattle.rpm_change.proofs.laws.Owing.{owing_none}
 use Rattle.rpm_change.proofs.Turned.{of_list, stop_is}
 use Rattle.rpm_change.proofs.turn.import_next.Goals as goal
 

@@ -2,7 +2,7 @@ use Rattle.std.proofs.Common.{◌≡◌, ℕ, ◌+◌, List, [], ◌∷◌, ◌+
 use Rattle.std.specs.Prelude.{slice_get}
 use Rattle.rpm_command.proofs.Vocabulary.{filter_map, number, word_at}
 use Rattle.std.proofs.lemmas.List.Elements.{filter_map-append}
-use Rattle.rpm_effects.specs.laws.Parts.{drop_get}
+use Rattle.rpm_effects.proofs.laws.Parts.{drop_get}
 use Rattle.rpm_command.proofs.task.numbers_of.Goals as goal
 
 -- one more is gone over

@@ -2,7 +2,7 @@ use Rattle.std.proofs.Common.{◌≡◌, ℕ, ◌+◌, List, [], ◌∷◌, ◌+
 use Rattle.std.specs.Prelude.{slice_get}
 use Rattle.std.proofs.lemmas.List.{length-append, map-append}
 use Rattle.rpm_command.proofs.Vocabulary.{word_at}
-use Rattle.rpm_effects.specs.laws.Parts.{drop_get}
+use Rattle.rpm_effects.proofs.laws.Parts.{drop_get}
 use Rattle.rpm_command.proofs.task.texts_of.Goals as goal
 
 abbrev bytes : Bor (List ℕ) → List ℕ

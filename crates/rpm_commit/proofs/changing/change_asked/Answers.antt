@@ -6,12 +6,12 @@ use Rattle.rpm_commit.proofs.Vocabulary.{recovered_kept, reopened_files}
 use Rattle.rpm_commit.proofs.Vocabulary.{ReopensAsOneOf, Rose, shown_outputs, State, task_course, task_parts, without_log, why_of, why_of_load, why_of_recover}
 use Rattle.rpm_commit.proofs.Vocabulary.{with_file, Work}
 use Rattle.rpm_effects.specs.declared.answer.Why.TheVariants as why
-use Rattle.rpm_commit.specs.laws.Emptied.{transaction_empty, same_empty}
+use Rattle.rpm_commit.proofs.laws.Emptied.{transaction_empty, same_empty}
 use Rattle.rpm_commit.proofs.Ends.{below_same, below_run}
 use Rattle.rpm_commit.proofs.Transactions.{transaction_one}
-use Rattle.rpm_commit.specs.laws.Recovered.{leaves_on}
-use Rattle.rpm_commit.specs.laws.Standing.{shut_stands}
-use Rattle.rpm_commit.specs.laws.Unmade.{early_load, early_recover, unmade_one}
+use Rattle.rpm_commit.proofs.laws.Recovered.{leaves_on}
+use Rattle.rpm_commit.proofs.laws.Standing.{shut_stands}
+use Rattle.rpm_commit.proofs.laws.Unmade.{early_load, early_recover, unmade_one}
 use Rattle.rpm_commit.proofs.changing.change_asked.Goals as goal
 
 pub returns-in-Ok-load-clause-answers : goal.returns-in-Ok-load-clause-answers

@@ -8,7 +8,7 @@ use Rattle.rpm_effects.specs.declared.tally.Halt.TheVariants as halt
 use Rattle.rpm_commit.proofs.Coursed.{unopened_works, made_works, went_works, anew_works, exercise_works}
 use Rattle.rpm_commit.proofs.Halting.{course_empty, ended_back, exercise_back, idle_hand, never_cause, never_of, never_of_exercise, streams_by}
 use Rattle.rpm_commit.proofs.Halting.{unopened_streams}
-use Rattle.rpm_commit.specs.laws.Unmade.{through_none}
+use Rattle.rpm_commit.proofs.laws.Unmade.{through_none}
 use Rattle.rpm_commit.proofs.courses.change_on.Goals as goal
 
 -- ---- not opened

@@ -1,6 +1,6 @@
 use Rattle.rpm_commit.proofs.Vocabulary.{Files, must_rebuild, packages, Remade, store_of, rows, runs_none, runs_then, SameLog, store, units_needed}
 use Rattle.std.proofs.Common.{length, refl, ap, ◌∙◌, inl, inr, ⊎_elim, arith}
-use Rattle.rpm_commit.specs.laws.Brokens.{by_bool, open_broken}
+use Rattle.rpm_commit.proofs.laws.Brokens.{by_bool, open_broken}
 use Rattle.rpm_commit.proofs.FileReach.{least_units}
 use Rattle.rpm_commit.proofs.opening.open_to_change.Goals as goal
 

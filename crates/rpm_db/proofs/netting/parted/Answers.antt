@@ -1,7 +1,7 @@
 use Rattle.std.proofs.Common.{◌≡◌, ◌+◌, ◌<◌, List, [], ◌∷◌, length, false, sym, ap, ◌∙◌, inl, inr, arith}
 use Rattle.rpm_db.proofs.Vocabulary.{Row, row_nth, same_row, times, times-append}
 use Rattle.rpm_db.proofs.Apart.{apart_none, apart_both, apart_drop, apart_add, without_end}
-use Rattle.rpm_hindex.specs.laws.RowLaws.{same_is}
+use Rattle.rpm_hindex.proofs.laws.RowLaws.{same_is}
 use Rattle.rpm_db.proofs.Shared.{times_next}
 use Rattle.rpm_db.proofs.netting.parted.Goals as goal
 use Rattle.rpm_db.proofs.netting.parted.Goals.{then-loop-i-test+else-j-len, else-loop-i-test}

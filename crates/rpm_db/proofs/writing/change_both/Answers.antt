@@ -9,7 +9,7 @@ use Rattle.rpm_db.proofs.PackageChanges.{reads_more}
 use Rattle.rpm_db.proofs.Results.{cause_as, map_ok, on_ok}
 use Rattle.rpm_db.proofs.Rooms.{room_written}
 use Rattle.rpm_db.proofs.Wholes.{whole_sealed}
-use Rattle.rpm_db.specs.laws.Running.{runs_then}
+use Rattle.rpm_db.proofs.laws.Running.{runs_then}
 use Rattle.rpm_db.proofs.writing.change_both.Goals as goal
 
 -- ---- what the calls ask for

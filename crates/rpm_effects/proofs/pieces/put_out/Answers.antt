@@ -1,4 +1,4 @@
-use Rattle.rpm_effects.specs.laws.Stopping.{out_cut}
+use Rattle.rpm_effects.proofs.laws.Stopping.{out_cut}
 use Rattle.rpm_effects.proofs.pieces.put_out.Goals as goal
 
 pub returns-in-Err-clause-part : goal.returns-in-Err-clause-part

@@ -3,7 +3,7 @@ use Rattle.rpm_outside.specs.declared.disk.Disk as disk
 use Rattle.rpm_group.proofs.Vocabulary.{Closed, Files, IsOpen, IsSound, KeepsBehind, leaves_then, leaves_weaker, CrashLeavesOnly, log_state, LogSays, LogState, Malformed}
 use Rattle.rpm_group.proofs.Vocabulary.{Open, Reading, reopened_files, ReopensAs, ReopensAsOneOf, then_look}
 use Rattle.rpm_group.proofs.Behinds.{keeps_none}
-use Rattle.rpm_group.specs.laws.KeptLogs.{same_kept, sound_kept}
+use Rattle.rpm_group.proofs.laws.KeptLogs.{same_kept, sound_kept}
 use Rattle.rpm_group.proofs.recovery.recover.Goals as goal
 
 -- an open log isn't malformed

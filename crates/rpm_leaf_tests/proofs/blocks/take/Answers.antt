@@ -1,5 +1,5 @@
 use Rattle.rpm_blocks.specs.Blocks.{range, with_range}
-use Rattle.rpm_blocks.specs.laws.Laws.{begins_in, with_range_here}
+use Rattle.rpm_blocks.proofs.laws.Laws.{begins_in, with_range_here}
 use Rattle.rpm_leaf_tests.proofs.blocks.take.Goals as goal
 
 -- the range that was inserted is in the list

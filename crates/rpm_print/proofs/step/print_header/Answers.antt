@@ -1,5 +1,5 @@
 use Rattle.rpm_print.proofs.Vocabulary.{bearer, buffer_sink, inner, meaning, sizes_line}
-use Rattle.rpm_print.specs.laws.Printing.{told_counts, print_stopped, print_flushed}
+use Rattle.rpm_print.proofs.laws.Printing.{told_counts, print_stopped, print_flushed}
 use Rattle.rpm_print.proofs.step.print_header.Goals as goal
 
 pub returns-in-Ok-flush-clause-step : goal.returns-in-Ok-flush-clause-step

@@ -1,7 +1,7 @@
 use Rattle.std.proofs.Common.{◌≡◌, true}
 use Rattle.rpm_effects.specs.Steps.{whole_step}
 use Rattle.rpm_effects.specs.Progress.{Anywhere}
-use Rattle.rpm_effects.specs.laws.Stopping.{out_cut, within_reads}
+use Rattle.rpm_effects.proofs.laws.Stopping.{out_cut, within_reads}
 use Rattle.rpm_print.proofs.texts.print_text.Goals as goal
 
 -- the text was cut off

@@ -1,14 +1,14 @@
 use Rattle.rpm_query.proofs.Vocabulary.{Halt, IsOfChain, missing_part, packages_in, picks, Selection, shown_outputs, whole_step}
 use Rattle.std.proofs.Common.{◌≡◌, Option, Some, Err, refl, sym, ◌∙◌, subst, arith}
 use Rattle.std.proofs.lemmas.Result.{err_from_is_err_and}
-use Rattle.rpm_effects.specs.laws.Joins.{hand_then}
-use Rattle.rpm_query.specs.laws.Answering.{answered_done, answered_halt, answered_missed, answered_stop}
-use Rattle.rpm_effects.specs.laws.Parts.{part_reads}
+use Rattle.rpm_effects.proofs.laws.Joins.{hand_then}
+use Rattle.rpm_query.proofs.laws.Answering.{answered_done, answered_halt, answered_missed, answered_stop}
+use Rattle.rpm_effects.proofs.laws.Parts.{part_reads}
 use Rattle.rpm_query.proofs.Looked.{both_read}
 use Rattle.rpm_query.proofs.Nexts.{any_here, recalled_here}
 use Rattle.rpm_query.proofs.Picking.{picking_part, picking_peeks, picking_peeks_both, picking_reads}
 use Rattle.rpm_query.proofs.Questions.{picked_is, chain_same}
-use Rattle.rpm_query.specs.laws.Unbroken.{part_unbroken, chain_unbroken, chain_of}
+use Rattle.rpm_query.proofs.laws.Unbroken.{part_unbroken, chain_unbroken, chain_of}
 use Rattle.rpm_query.proofs.answering.answer.Goals as goal
 
 -- ---- no question

@@ -1,6 +1,6 @@
 use Rattle.rpm_query.proofs.Vocabulary.{above, from_one, is_some_of, packages, picks, picks_from_one, store_of}
 use Rattle.std.proofs.Common.{ℕ, ap, sym, ◌∙◌}
-use Rattle.rpm_query.specs.laws.Rising.{any_passed}
+use Rattle.rpm_query.proofs.laws.Rising.{any_passed}
 use Rattle.rpm_query.proofs.answering.is_any_picked.Goals as goal
 
 pub returns-then-after-eq0-clause-told : goal.returns-then-after-eq0-clause-told

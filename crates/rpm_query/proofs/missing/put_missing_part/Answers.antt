@@ -1,6 +1,6 @@
 use Rattle.rpm_query.proofs.Vocabulary.{inner, missing_part}
 use Rattle.std.proofs.Common.{refl}
-use Rattle.rpm_effects.specs.laws.Reaching.{through_none}
+use Rattle.rpm_effects.proofs.laws.Reaching.{through_none}
 use Rattle.rpm_query.proofs.missing.put_missing_part.Goals as goal
 
 pub returns-in-Some-clause-part : goal.returns-in-Some-clause-part

@@ -1,4 +1,4 @@
-use Rattle.rpm_effects.specs.laws.Stopping.{err_cut}
+use Rattle.rpm_effects.proofs.laws.Stopping.{err_cut}
 use Rattle.rpm_query.proofs.Vocabulary.{missing_part}
 use Rattle.rpm_query.proofs.missing.put_no_record.Goals as goal
 

@@ -1,6 +1,6 @@
 use Rattle.std.proofs.Common.{ℕ, List, Option, sym, subst}
 use Rattle.rpm_query.proofs.Vocabulary.{Anywhere, bytes_at, inner, outputs, PartIs, Portion, whole_step}
-use Rattle.rpm_effects.specs.laws.Failing.{line_part}
+use Rattle.rpm_effects.proofs.laws.Failing.{line_part}
 use Rattle.rpm_query.proofs.Filed.{found_part, found_open}
 use Rattle.rpm_query.proofs.package_files.print_file.Goals as goal
 

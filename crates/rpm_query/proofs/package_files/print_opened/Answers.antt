@@ -1,8 +1,8 @@
 use Rattle.std.proofs.Common.{◌≡◌, Some, Result, Err, sym, ap, ◌∙◌, subst}
 use Rattle.rpm_query.proofs.Vocabulary.{Anywhere, FileFault, HeaderAndRest, inner, bytes_left, outputs, package_header, PartIs, read_part, whole_step}
 use Rattle.rpm_effects.specs.declared.tally.Halt.TheVariants as halt
-use Rattle.rpm_effects.specs.laws.Failing.{line_part}
-use Rattle.rpm_effects.specs.laws.Reaching.{through_none}
+use Rattle.rpm_effects.proofs.laws.Failing.{line_part}
+use Rattle.rpm_effects.proofs.laws.Reaching.{through_none}
 use Rattle.rpm_query.proofs.Filed.{read_stop, own_fault, unread}
 use Rattle.rpm_query.proofs.package_files.print_opened.Goals as goal
 

@@ -1,7 +1,7 @@
 use Rattle.std.proofs.Common.{◌≡◌, Bool, [], Ok, Err, subst}
 use Rattle.std.proofs.lemmas.Result.{err_from_is_err_and}
 use Rattle.rpm_query.proofs.Vocabulary.{Anywhere, bearer, Header, inner, meaning, outputs, printed_step, StepIs}
-use Rattle.rpm_effects.specs.laws.Stopping.{reached_first}
+use Rattle.rpm_effects.proofs.laws.Stopping.{reached_first}
 use Rattle.rpm_query.proofs.Filed.{fails_one}
 use Rattle.rpm_query.proofs.package_files.print_package.Goals as goal
 

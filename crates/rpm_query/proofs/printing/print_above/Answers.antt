@@ -5,9 +5,9 @@ use Rattle.std.proofs.lemmas.Result.{err_from_is_err_and}
 use Rattle.rpm_effects.specs.declared.tally.Halt.TheVariants as halt
 use Rattle.rpm_query.proofs.Looked.{look_within, looks_next, looks_rest, looks_within, rest_read}
 use Rattle.rpm_query.proofs.Nexts.{next_here, printed_none, printed_next, printed_last, recalled_here, some_last, printed_stops}
-use Rattle.rpm_print.specs.laws.Printed.{bearer-step_by, number-entry}
-use Rattle.rpm_print.specs.laws.Reached.{reach_then}
-use Rattle.rpm_query.specs.laws.Unbroken.{step_unbroken}
+use Rattle.rpm_print.proofs.laws.Printed.{bearer-step_by, number-entry}
+use Rattle.rpm_print.proofs.laws.Reached.{reach_then}
+use Rattle.rpm_query.proofs.laws.Unbroken.{step_unbroken}
 use Rattle.rpm_query.proofs.printing.print_above.Goals as goal
 
 pub loop-next-init : goal.loop-next-init

@@ -3,12 +3,12 @@ use Rattle.rpm_query.proofs.Vocabulary.{PartProgress, reached_by, ReadsIn, store
 use Rattle.std.proofs.Common.{◌≡◌, ◌+◌, ◌-◌, ◌≤◌, Bool, List, [], ◌∷◌, Err, sym, subst, arith}
 use Rattle.std.proofs.lemmas.List.{append-nil}
 use Rattle.rpm_db.specs.Database.{packages_cost, packages_cost_to}
-use Rattle.rpm_outside.specs.laws.Looking.{looks_then}
+use Rattle.rpm_outside.proofs.laws.Looking.{looks_then}
 use Rattle.rpm_select.specs.declared.selection.Selection.TheVariants as question
-use Rattle.rpm_query.specs.laws.Sums.{reads_one}
-use Rattle.rpm_effects.specs.laws.Stopping.{reached_reads}
-use Rattle.rpm_effects.specs.laws.Parts.{went_stop}
-use Rattle.rpm_print.specs.laws.Askable.{asked_still}
+use Rattle.rpm_query.proofs.laws.Sums.{reads_one}
+use Rattle.rpm_effects.proofs.laws.Stopping.{reached_reads}
+use Rattle.rpm_effects.proofs.laws.Parts.{went_stop}
+use Rattle.rpm_print.proofs.laws.Askable.{asked_still}
 use Rattle.rpm_query.proofs.querying.query_all.Goals as goal
 
 pub print_above-requires : goal.print_above-requires

@@ -1,12 +1,12 @@
 use Rattle.rpm_query.proofs.Vocabulary.{argument_reach, Files, inner, is_indexed, IsOfChain, lent, packages_in, question_of, word_at}
 use Rattle.std.proofs.Common.{map, sym, ap, ◌∙◌, subst, Err, arith}
-use Rattle.rpm_effects.specs.laws.Joins.{hand_then}
-use Rattle.rpm_effects.specs.laws.Halts.{of_out, of_err}
-use Rattle.rpm_print.specs.laws.Peeking.{peeks_none, peeks_then}
+use Rattle.rpm_effects.proofs.laws.Joins.{hand_then}
+use Rattle.rpm_effects.proofs.laws.Halts.{of_out, of_err}
+use Rattle.rpm_print.proofs.laws.Peeking.{peeks_none, peeks_then}
 use Rattle.rpm_query.proofs.Nexts.{held_still, recalled_here}
-use Rattle.rpm_query.specs.laws.Sums.{before_some, get_map}
+use Rattle.rpm_query.proofs.laws.Sums.{before_some, get_map}
 use Rattle.rpm_query.proofs.Turns.{few_more, turned_none, turned_more, turned_stop, part_here, reads_here, read_more, read_sum, read_by}
-use Rattle.rpm_query.specs.laws.Unbroken.{chains_of}
+use Rattle.rpm_query.proofs.laws.Unbroken.{chains_of}
 use Rattle.rpm_query.proofs.querying.query_each.Goals as goal
 
 pub loop-k-init : goal.loop-k-init

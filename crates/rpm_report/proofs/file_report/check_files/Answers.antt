@@ -3,10 +3,10 @@ use Rattle.rpm_report.proofs.Vocabulary.{packages_in, PartIs, pkg_read, reached_
 use Rattle.rpm_report.proofs.Vocabulary.{why_of_report}
 use Rattle.std.proofs.Common.{◌≡◌, ◌+◌, ◌≤◌, true, false, Bool, List, [], ◌∷◌, map, Result, Ok, Err, sym, subst, arith}
 use Rattle.rpm_report.specs.Labels.{label_of_number}
-use Rattle.rpm_report.specs.laws.Reporting.{went_report}
-use Rattle.rpm_effects.specs.laws.Parts.{part_reads}
+use Rattle.rpm_report.proofs.laws.Reporting.{went_report}
+use Rattle.rpm_effects.proofs.laws.Parts.{part_reads}
 use Rattle.rpm_report.proofs.Labels.{same_steps}
-use Rattle.rpm_effects.specs.laws.Reaching.{not_begun, through_none}
+use Rattle.rpm_effects.proofs.laws.Reaching.{not_begun, through_none}
 use Rattle.rpm_report.proofs.file_report.check_files.Goals as goal
 
 -- what was told of a report was told of the packages

@@ -3,9 +3,9 @@ use Rattle.std.proofs.lemmas.Bool.Decides.{nat_tests}
 use Rattle.std.proofs.lemmas.List.{drop_all}
 use Rattle.std.proofs.lemmas.Result.{err_from_is_err_and}
 use Rattle.rpm_report.proofs.Vocabulary.{Conflict, conflict_step, is_some_of, label_told, report_steps, Step, told_steps, unread_step, whole_step}
-use Rattle.rpm_effects.specs.laws.Parts.{drop_get}
+use Rattle.rpm_effects.proofs.laws.Parts.{drop_get}
 use Rattle.rpm_report.proofs.Lines.{Written, written_none, written_out, written_err, written_stop, written_all}
-use Rattle.rpm_effects.specs.laws.Stopping.{reached_first}
+use Rattle.rpm_effects.proofs.laws.Stopping.{reached_first}
 use Rattle.rpm_report.proofs.Telling.{rest_at}
 use Rattle.rpm_report.proofs.file_report.tell_report.Goals as goal
 

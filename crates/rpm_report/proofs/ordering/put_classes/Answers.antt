@@ -2,7 +2,7 @@ use Rattle.rpm_report.proofs.Vocabulary.{class_steps, Files, flat_map, packages,
 use Rattle.std.proofs.Common.{◌≡◌, ◌+◌, ◌++◌, drop, ap, arith}
 use Rattle.std.proofs.lemmas.List.{drop_all}
 use Rattle.std.proofs.lemmas.Result.{err_from_is_err_and}
-use Rattle.rpm_print.specs.laws.Askable.{asked_still}
+use Rattle.rpm_print.proofs.laws.Askable.{asked_still}
 use Rattle.rpm_report.proofs.Going.{going_none, going_more, going_stop, going_end}
 use Rattle.rpm_report.proofs.Telling.{classes_at}
 use Rattle.rpm_report.proofs.ordering.put_classes.Given.{Over}

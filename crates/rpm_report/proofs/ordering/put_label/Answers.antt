@@ -3,8 +3,8 @@ use Rattle.std.proofs.lemmas.Result.{err_from_is_err_and}
 use Rattle.std.specs.Prelude.{codes}
 use Rattle.rpm_report.proofs.Vocabulary.{Anywhere, bearer, concat, header, header_label, inner, label_text, outputs, read_text}
 use Rattle.rpm_report.proofs.Labels.{header_label_is}
-use Rattle.rpm_effects.specs.laws.Reaching.{not_begun, through_none}
-use Rattle.rpm_effects.specs.laws.Stopping.{reached_unsunk}
+use Rattle.rpm_effects.proofs.laws.Reaching.{not_begun, through_none}
+use Rattle.rpm_effects.proofs.laws.Stopping.{reached_unsunk}
 use Rattle.rpm_report.proofs.Telling.{line_told}
 use Rattle.rpm_report.proofs.ordering.put_label.Goals as goal
 

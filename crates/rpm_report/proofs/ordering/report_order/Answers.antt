@@ -3,12 +3,12 @@ use Rattle.rpm_select.specs.Frame.{HasKeptRows}
 use Rattle.std.proofs.Common.{◌≡◌, true, false, Bool, [], refl, ap, ◌∙◌, subst}
 use Rattle.std.specs.Prelude.{IsTrue}
 use Rattle.std.proofs.lemmas.Result.{err_from_is_err_and}
-use Rattle.rpm_print.specs.laws.Askable.{asked_still}
+use Rattle.rpm_print.proofs.laws.Askable.{asked_still}
 use Rattle.rpm_report.proofs.Behind.{behind_first, behind_stop, behind_sound, question_broken, question_read}
-use Rattle.rpm_report.specs.laws.Checked.{part_unbroken, reached_unbroken}
-use Rattle.rpm_report.specs.laws.Reporting.{none_listed, order_listed}
-use Rattle.rpm_print.specs.laws.Reached.{rows_at}
-use Rattle.rpm_effects.specs.laws.Reaching.{not_begun, through_none}
+use Rattle.rpm_report.proofs.laws.Checked.{part_unbroken, reached_unbroken}
+use Rattle.rpm_report.proofs.laws.Reporting.{none_listed, order_listed}
+use Rattle.rpm_print.proofs.laws.Reached.{rows_at}
+use Rattle.rpm_effects.proofs.laws.Reaching.{not_begun, through_none}
 use Rattle.rpm_report.proofs.SoFar.{glances, peeks_more}
 use Rattle.rpm_report.proofs.ordering.report_order.Given.{Over}
 use Rattle.rpm_report.proofs.ordering.report_order.Goals.{After-put_classes}

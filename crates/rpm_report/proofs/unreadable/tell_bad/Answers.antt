@@ -1,7 +1,7 @@
 use Rattle.rpm_report.proofs.Vocabulary.{bad_step, bearer}
 use Rattle.std.proofs.Common.{refl}
 use Rattle.std.proofs.lemmas.Result.{err_from_is_err_and}
-use Rattle.rpm_effects.specs.laws.Reaching.{not_begun, through_none}
+use Rattle.rpm_effects.proofs.laws.Reaching.{not_begun, through_none}
 use Rattle.rpm_report.proofs.Telling.{step_stops}
 use Rattle.rpm_report.proofs.unreadable.tell_bad.Goals as goal
 

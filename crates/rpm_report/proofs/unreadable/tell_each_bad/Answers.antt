@@ -1,8 +1,8 @@
 use Rattle.rpm_report.proofs.Vocabulary.{Anywhere, packages, store_of}
 use Rattle.std.proofs.lemmas.Result.{err_from_is_err_and}
-use Rattle.rpm_print.specs.laws.Askable.{asked_still}
+use Rattle.rpm_print.proofs.laws.Askable.{asked_still}
 use Rattle.rpm_report.proofs.SoFar.{so_far_none, so_far_more, so_far_stops, so_far_ends}
-use Rattle.rpm_print.specs.laws.Verified.{next_entry, no_entry, from_one, told_none, told_more, told_stop, told_end}
+use Rattle.rpm_print.proofs.laws.Verified.{next_entry, no_entry, from_one, told_none, told_more, told_stop, told_end}
 use Rattle.rpm_report.proofs.unreadable.tell_each_bad.Goals as goal
 
 pub tell_bad-requires : goal.tell_bad-requires

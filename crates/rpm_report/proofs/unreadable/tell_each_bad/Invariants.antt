@@ -2,7 +2,7 @@ use Rattle.rpm_report.proofs.Vocabulary.{bad_part, entries, inner, packages, sto
 use Rattle.std.proofs.Common.{ℕ, ◌-◌, ◌^◌, Bool, List}
 use Rattle.std.specs.Prelude.{IsTrue}
 use Rattle.rpm_report.proofs.SoFar.{SoFar}
-use Rattle.rpm_print.specs.laws.Verified.{ReportSoFar}
+use Rattle.rpm_print.proofs.laws.Verified.{ReportSoFar}
 use Rattle.rpm_report.proofs.unreadable.tell_each_bad.Given as goal
 
 abbrev pub invariant-loop-next : goal.invariant-loop-next

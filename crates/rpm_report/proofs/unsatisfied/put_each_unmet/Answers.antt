@@ -4,7 +4,7 @@ use Rattle.std.proofs.lemmas.Result.{err_from_is_err_and}
 use Rattle.std.proofs.lemmas.List.{map-append}
 use Rattle.rpm_report.proofs.Going.{going_none, going_more, going_stop, going_end}
 use Rattle.rpm_report.proofs.Rowed.{front_none, front_own, front_some}
-use Rattle.rpm_print.specs.laws.Askable.{asked_still}
+use Rattle.rpm_print.proofs.laws.Askable.{asked_still}
 use Rattle.rpm_report.proofs.unsatisfied.put_each_unmet.Given.{Over}
 use Rattle.rpm_report.proofs.unsatisfied.put_each_unmet.Goals.{After-put_row, After-row_len}
 use Rattle.rpm_report.proofs.unsatisfied.put_each_unmet.Goals as goal

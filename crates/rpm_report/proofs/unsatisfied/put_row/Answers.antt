@@ -2,9 +2,9 @@ use Rattle.rpm_report.proofs.Vocabulary.{Anywhere, bearer, flat_map, header, inn
 use Rattle.std.proofs.Common.{◌≡◌, Bool, List, ℕ, ap, sym, ◌∙◌}
 use Rattle.std.proofs.lemmas.Result.{err_from_is_err_and}
 use Rattle.std.specs.FinMap as finite
-use Rattle.rpm_effects.specs.laws.Reaching.{not_begun, through_none}
+use Rattle.rpm_effects.proofs.laws.Reaching.{not_begun, through_none}
 use Rattle.rpm_report.proofs.Rowed.{of_package, own_line, own_steps, piece_reached}
-use Rattle.rpm_effects.specs.laws.Stopping.{reached_unsunk}
+use Rattle.rpm_effects.proofs.laws.Stopping.{reached_unsunk}
 use Rattle.rpm_report.proofs.unsatisfied.put_row.Goals as goal
 
 pub returns-in_err-read_into-clause-went : goal.returns-in_err-read_into-clause-went

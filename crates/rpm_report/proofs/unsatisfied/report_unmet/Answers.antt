@@ -3,10 +3,10 @@ use Rattle.rpm_select.specs.Frame.{HasKeptRows}
 use Rattle.std.proofs.Common.{◌≡◌, ◌==◌, Bool, true, not, List, [], map, length, refl, sym, ap, ◌∙◌}
 use Rattle.std.specs.Prelude.{IsTrue}
 use Rattle.std.proofs.lemmas.Result.{err_from_is_err_and}
-use Rattle.rpm_print.specs.laws.Askable.{asked_still}
+use Rattle.rpm_print.proofs.laws.Askable.{asked_still}
 use Rattle.rpm_report.proofs.Behind.{behind_first, behind_stop, behind_told, question_broken, question_read}
-use Rattle.rpm_report.specs.laws.Checked.{part_unbroken, reached_unbroken}
-use Rattle.rpm_print.specs.laws.Reached.{rows_at}
+use Rattle.rpm_report.proofs.laws.Checked.{part_unbroken, reached_unbroken}
+use Rattle.rpm_print.proofs.laws.Reached.{rows_at}
 use Rattle.rpm_report.proofs.SoFar.{glances, peeks_more}
 use Rattle.rpm_report.proofs.unsatisfied.report_unmet.Given.{Over}
 use Rattle.rpm_report.proofs.unsatisfied.report_unmet.Goals.{After-put_each_unmet}

@@ -1,10 +1,10 @@
 use Rattle.rpm_report.proofs.Vocabulary.{Anywhere, bearer, Bearer, cost_more, cost_some, Everything, inner, looks_more, looks_none, looks_then, packages, Pkg}
 use Rattle.rpm_report.proofs.Vocabulary.{pkg_read, reached_by, store_of}
 use Rattle.std.proofs.Common.{◌≡◌, ◌+◌, ◌≤◌, [], ◌∷◌, Err, sym, ap, ◌∙◌, subst, arith}
-use Rattle.rpm_report.specs.laws.Reporting.{went_report}
-use Rattle.rpm_print.specs.laws.Askable.{asked_still}
-use Rattle.rpm_effects.specs.laws.Halts.{of_err}
-use Rattle.rpm_print.specs.laws.Verified.{next_entry, no_entry, from_one, told_none, told_more, told_stop, told_end, went_failing, went_sound}
+use Rattle.rpm_report.proofs.laws.Reporting.{went_report}
+use Rattle.rpm_print.proofs.laws.Askable.{asked_still}
+use Rattle.rpm_effects.proofs.laws.Halts.{of_err}
+use Rattle.rpm_print.proofs.laws.Verified.{next_entry, no_entry, from_one, told_none, told_more, told_stop, told_end, went_failing, went_sound}
 use Rattle.rpm_report.proofs.verdicts.report.Goals as goal
 
 pub verify_one-requires-clause-asked : goal.verify_one-requires-clause-asked

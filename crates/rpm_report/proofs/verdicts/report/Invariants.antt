@@ -1,7 +1,7 @@
 use Rattle.rpm_report.proofs.Vocabulary.{packages_cost_to, entries, entry_verdict, inner, OnlyReads, packages, Pkg, store_of}
 use Rattle.std.proofs.Common.{ℕ, ◌-◌, ◌^◌, ◌≤◌, Bool, List}
 use Rattle.std.specs.Prelude.{IsTrue}
-use Rattle.rpm_print.specs.laws.Verified.{ReportSoFar}
+use Rattle.rpm_print.proofs.laws.Verified.{ReportSoFar}
 use Rattle.rpm_report.proofs.verdicts.report.Given as goal
 
 abbrev pub invariant-loop-next : goal.invariant-loop-next

@@ -5,7 +5,7 @@ use Rattle.rpm_command.specs.declared.reading.Kind.{Kind}
 use Rattle.rpm_tool.proofs.Begun.{unforeign}
 use Rattle.rpm_tool.proofs.Faults.{never_cause}
 use Rattle.rpm_tool.proofs.Page.{answered, asked_streams, does_plain, does_files, does_text, does_keyed, does_change, does_nothing, said_disk, said_streams, said_words}
-use Rattle.rpm_print.specs.laws.Peeking.{leaves_none}
+use Rattle.rpm_print.proofs.laws.Peeking.{leaves_none}
 use Rattle.rpm_tool.proofs.Undone.{asked_some, done_words, starved, undone_words}
 use Rattle.rpm_tool.proofs.command.command.Goals as goal
 

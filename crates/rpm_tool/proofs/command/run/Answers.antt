@@ -4,7 +4,7 @@ use Rattle.rpm_tool.proofs.Arguments.{questions}
 use Rattle.rpm_tool.proofs.Closed.{ended, handed, counted_fault}
 use Rattle.rpm_tool.proofs.Faults.{le_self}
 use Rattle.rpm_tool.proofs.Numbered.{argument_numbers, picked_rises, query_above, whole_numbers, all_rise}
-use Rattle.rpm_print.specs.laws.Printing.{inner_same}
+use Rattle.rpm_print.proofs.laws.Printing.{inner_same}
 use Rattle.rpm_tool.proofs.command.run.Goals as goal
 
 pub returns-clause-unread : goal.returns-clause-unread

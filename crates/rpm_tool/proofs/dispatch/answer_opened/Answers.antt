@@ -4,12 +4,12 @@ use Rattle.rpm_tool.proofs.Vocabulary.{reached_by, store_of, shown_outputs, word
 use Rattle.rpm_tool.proofs.Vocabulary.{unsatisfied_part}
 use Rattle.rpm_tool.proofs.Vocabulary.{verify}
 use Rattle.std.proofs.Common.{◌≡◌, ◌+◌, ◌≤◌, [], ◌∷◌, length, map, sym, ◌∙◌, arith}
-use Rattle.rpm_query.specs.laws.Answering.{query_none, query_some, reaches_none, reaches_some}
-use Rattle.rpm_report.specs.laws.Reporting.{went_report}
-use Rattle.rpm_report.specs.laws.Checked.{report_some, report_done}
-use Rattle.rpm_print.specs.laws.Peeking.{peeks_packages}
-use Rattle.rpm_query.specs.laws.Unbroken.{chains_none}
-use Rattle.rpm_report.specs.laws.Reporting.{some_none, some_went}
+use Rattle.rpm_query.proofs.laws.Answering.{query_none, query_some, reaches_none, reaches_some}
+use Rattle.rpm_report.proofs.laws.Reporting.{went_report}
+use Rattle.rpm_report.proofs.laws.Checked.{report_some, report_done}
+use Rattle.rpm_print.proofs.laws.Peeking.{peeks_packages}
+use Rattle.rpm_query.proofs.laws.Unbroken.{chains_none}
+use Rattle.rpm_report.proofs.laws.Reporting.{some_none, some_went}
 use Rattle.rpm_tool.proofs.dispatch.answer_opened.Goals as goal
 
 -- ---- a query, without arguments and with some

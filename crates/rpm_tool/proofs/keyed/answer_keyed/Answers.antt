@@ -2,10 +2,10 @@ use Rattle.std.proofs.Common.{[], ap, ◌∙◌, arith}
 use Rattle.rpm_tool.proofs.Vocabulary.{Files, inner, is_foreign, is_of_streams, log_state, pkg_read, reopened_files, shown_outputs, store, Through}
 use Rattle.rpm_tool.proofs.Faults.{cause_then, hands_none}
 use Rattle.rpm_tool.proofs.OpeningLaws.{leaves_peeks, runs_peeks}
-use Rattle.rpm_effects.specs.laws.Reaching.{through_none}
+use Rattle.rpm_effects.proofs.laws.Reaching.{through_none}
 use Rattle.rpm_tool.proofs.Recovered.{requests, did_opened, did_unopened, recovered, rest_same, undone_fault, unwritten}
-use Rattle.rpm_commit.specs.laws.Recovered.{recovering_packages, recovering_still}
-use Rattle.rpm_group.specs.laws.KeptLogs.{recovered_kept}
+use Rattle.rpm_commit.proofs.laws.Recovered.{recovering_packages, recovering_still}
+use Rattle.rpm_group.proofs.laws.KeptLogs.{recovered_kept}
 use Rattle.rpm_tool.proofs.Unloaded.{open_own, open_streams}
 use Rattle.rpm_tool.proofs.Unrecovered.{unrecovered, unrecovered_bad, unrecovered_complete, unrecovered_full, unrecovered_kind, unrecovered_streams}
 use Rattle.rpm_tool.proofs.Unrecovered.{unrecovered_undone}

@@ -2,9 +2,9 @@ use Rattle.std.proofs.Common.{◌≡◌, ◌+◌, ◌≤◌, true, refl, sym, ap
 use Rattle.rpm_tool.proofs.Vocabulary.{request_of, PlainProgress, Files, Idx, inner, is_of_streams, laid_files, log_state, StoreAnswer, Pkg, pkg_read, query_cost, read_to}
 use Rattle.rpm_tool.proofs.Vocabulary.{reopened_files, shown_outputs, store, Units, unless_starved, Why}
 use Rattle.rpm_effects.specs.declared.answer.Why.TheVariants as why
-use Rattle.rpm_commit.specs.laws.Starved.{starved_streams}
+use Rattle.rpm_commit.proofs.laws.Starved.{starved_streams}
 use Rattle.rpm_tool.proofs.Requests.{does_reads, does_starved}
-use Rattle.rpm_effects.specs.laws.Reaching.{through_none}
+use Rattle.rpm_effects.proofs.laws.Reaching.{through_none}
 use Rattle.rpm_tool.proofs.Faults.{hands_none, le_more, le_none}
 use Rattle.rpm_tool.proofs.Loading.{opened_as, loaded_sound, below_reads}
 use Rattle.rpm_tool.proofs.Unloaded.{load_fault, load_own, load_streams, unloaded}

@@ -3,14 +3,14 @@ use Rattle.rpm_tool.proofs.Vocabulary.{Files, inner, is_indexed, looks_then}
 use Rattle.rpm_tool.proofs.Vocabulary.{no_index_rows, StoreAnswer, Pkg, pkg_read, reach_sum, reached_by, read_to, store_of, shown_outputs, store, Store, Units}
 use Rattle.std.proofs.Common.{◌≡◌, ◌+◌, ◌-◌, ◌^◌, ◌≤◌, ◌||◌, false, Result, refl, sym, ap, ◌∙◌, subst, arith}
 use Rattle.rpm_effects.specs.declared.answer.Why.TheVariants as why
-use Rattle.rpm_print.specs.laws.Askable.{keeps_none}
+use Rattle.rpm_print.proofs.laws.Askable.{keeps_none}
 use Rattle.rpm_tool.proofs.Faults.{cause_then, hands_none, le_first}
 use Rattle.rpm_tool.proofs.Requests.{does_reads}
-use Rattle.rpm_print.specs.laws.Peeking.{looks_unindexed}
+use Rattle.rpm_print.proofs.laws.Peeking.{looks_unindexed}
 use Rattle.rpm_pkgdb.specs.Costs.{opening_cost}
-use Rattle.rpm_effects.specs.laws.Reaching.{through_none}
+use Rattle.rpm_effects.proofs.laws.Reaching.{through_none}
 use Rattle.rpm_tool.proofs.Unloaded.{unopened_fault, unopened_memory}
-use Rattle.rpm_query.specs.laws.Sums.{store_by, store_sum}
+use Rattle.rpm_query.proofs.laws.Sums.{store_by, store_sum}
 use Rattle.rpm_tool.proofs.unindexed.answer_unindexed.Goals as goal
 
 pub answer_opened-requires : goal.answer_opened-requires

@@ -1,2 +1,0 @@
--- What crates above cite.
-pub mod Lists

@@ -1,0 +1,2 @@
+-- What crates above cite, and what it is proved by.
+pub mod Longer
