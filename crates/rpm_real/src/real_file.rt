@@ -88,6 +88,7 @@ impl RealFile {
     }
 
     /// Fills `into` from a byte on where a page that is held has all of it, and tells whether it did.
+    #[inline(always)]
     fn fill_by_page(&mut self, offset: u64, into: &mut [u8]) -> bool
         ensures { self.new.read ≡ self.old.read }
     {
@@ -125,6 +126,7 @@ impl RealFile {
     }
 
     /// Fills `into` from a unit on. A file that ends before is an error.
+    #[inline(always)]
     pub fn read_at<R: Files<File = fs::File>>(
         &mut self,
         rt: &R,

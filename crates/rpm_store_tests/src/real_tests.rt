@@ -3,8 +3,10 @@
 use crate::watched::{CutOutput, Watched};
 use rpm_outside::{Absent, Disk, Failed, File, Shelf, Sink};
 use rpm_real::{Purpose, RealDisk, RealShelf, RealSink};
+use std::alloc::{AllocError, Global};
 use std::fs;
 use std::os::unix::fs::symlink;
+use std::rt::{Clock, Files};
 use std::test::Fail;
 
 #[test]
@@ -183,5 +185,55 @@ fn what_a_signal_cuts_is_done_again(rt: HostRuntime) -> Result<(), Fail> {
     let read = [shelf.read(&mut into), shelf.read(&mut into)];
     let written = RealSink::new(CutOutput::new()).write(b"ab");
     assert!(rt; opened == Ok(()) && read == [Ok(1), Ok(0)] && into[0] == b'a' && written == Ok(1));
+    Ok(())
+}
+
+// The units of a file: twice as many bytes as pages of it are held.
+const UNITS: u32 = 262_144;
+
+// A file of these units, each of which says its own number, four times.
+fn numbered_file(alloc: Global) -> Result<Vec<u8>, AllocError> {
+    let mut file = Vec::with_capacity(alloc, 4_194_304)?;
+    for at in 0..UNITS {
+        for _ in 0..4 {
+            file.extend_from_slice(&at.to_le_bytes())?;
+        }
+    }
+    Ok(file)
+}
+
+// The first unit that doesn't say its number, of 20,000, each so many units after the one before.
+fn other_unit<R: Files<File = fs::File> + Clock>(
+    disk: &mut RealDisk<'_, R>,
+    step: u32,
+) -> Option<u32> {
+    let mut unit = [0u8; 16];
+    for i in 0..20_000u32 {
+        let at = i.wrapping_mul(step) % UNITS;
+        let [a, b, c, d] = at.to_le_bytes();
+        let read = disk.read_at(File::Idx, at as u64, &mut unit);
+        if read != Ok(()) || unit != [a, b, c, d, a, b, c, d, a, b, c, d, a, b, c, d] {
+            return Some(at);
+        }
+    }
+    None
+}
+
+#[test]
+fn pages_say_what_the_file_has(rt: HostRuntime) -> Result<(), Fail> {
+    fs::create_dir_all(&rt, "pages")?;
+    fs::write(&rt, "pages/Hindex.db", &numbered_file(rt.alloc())?)?;
+    let mut disk = RealDisk::new(rt.alloc(), &rt, "pages", Purpose::Change)?;
+    // each read of the first walk is of another page, so that pages are left alone soon; at the end of the second one
+    // they are held, and the third one comes to a unit that was written since
+    let far = other_unit(&mut disk, 7919);
+    let near = other_unit(&mut disk, 1);
+    let written = disk.write_at(File::Idx, 15_838, &[0; 16]);
+    let again = other_unit(&mut disk, 7919);
+    fs::remove_dir_all(&rt, "pages")?;
+    assert_eq!(rt;
+        (far, near, written, again),
+        (None, None, Ok(()), Some(15_838))
+    );
     Ok(())
 }

@@ -95,6 +95,7 @@ impl Door {
     }
 
     /// Before each call: lets the process in, once. Where it isn't let in, each call fails.
+    #[inline(always)]
     pub fn enter<R: Files<File = fs::File> + Clock>(
         &mut self,
         rt: &R,
@@ -105,6 +106,19 @@ impl Door {
         if self.is_open {
             return Ok(());
         }
+        self.enter_first(rt, pkg)
+    }
+
+    /// Lets the process in, where it wasn't yet.
+    #[cold]
+    #[inline(never)]
+    fn enter_first<R: Files<File = fs::File> + Clock>(
+        &mut self,
+        rt: &R,
+        pkg: &mut RealFile,
+    ) -> Result<(), Failed>
+        ensures { pkg.new.read ≡ pkg.old.read }
+    {
         if self.obstacle.is_some() {
             return Err(Failed);
         }
