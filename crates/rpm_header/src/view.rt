@@ -146,9 +146,14 @@ impl<'a> View<'a> {
     pub fn find(&self, tag: u32) -> Option<Entry<'a>>
         ensures { result ≡ last_of tag self.now.entries }
     {
-        for i in (0..self.entries()).rev() {
-            if self.tag_at(i) == tag {
-                return Some(self.entry(i));
+        // In a view of its own the place of the bytes stays in a register from entry to entry.
+        let view = View {
+            blob: self.blob,
+            count: self.count,
+        };
+        for i in (0..view.entries()).rev() {
+            if view.tag_at(i) == tag {
+                return Some(view.entry(i));
             }
         }
         None
