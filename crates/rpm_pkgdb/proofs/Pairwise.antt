@@ -1,7 +1,7 @@
 -- Nothing is wrong with a table exactly where each slot is right by itself and any two used ones are apart.
-use Rattle.std.proofs.Common.{◌≡◌, inl, inr, ℕ, zero, suc, ◌+◌, ◌-◌, ◌<◌, List, [], ◌∷◌, length, take, map, true, false, Option, Some, None, refl, sym, ap, ◌∙◌, subst, arith, codes}
+use Rattle.std.proofs.Common.{◌≡◌, inl, inr, ℕ, zero, suc, ◌+◌, ◌-◌, ◌<◌, List, [], ◌∷◌, length, take, true, false, Option, Some, None, refl, sym, ap, ◌∙◌, subst, arith, codes}
 use Rattle.rpm_pkgdb.proofs.Vocabulary.{AreSlotsApart, AreSound, begins_with_word, blank, damage_at, end_of, damage_of_slot, first_from, free, has_number, is_used, IsPlaced, list_any}
-use Rattle.rpm_pkgdb.proofs.Vocabulary.{slots_meet, option_map, option_or, own_reason, range_with_len, shared_reason, Slot, slot_at, slot_fault, slot_of, slots_in}
+use Rattle.rpm_pkgdb.proofs.Vocabulary.{slots_meet, option_map, option_or, own_reason, shared_reason, Slot, slot_at, slot_fault, slot_of, slots_in}
 use Rattle.rpm_pkgdb.proofs.Vocabulary.{table_fault, table_is_first, unit_at, Units, used_reason}
 use Rattle.std.proofs.lemmas.List.{get_or-take, get_or_past, length-take}
 use Rattle.std.proofs.lemmas.Bool.{cases_lt}
