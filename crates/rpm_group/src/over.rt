@@ -64,10 +64,6 @@ fn read_partly<D: Disk>(
     ensures reads { ReadsOnly D.Disk file (length into.old) result below.old below.new }
 {
     let pages = layers.file(file);
-    // A file of which nothing is held reads as below, and its length need not be asked for.
-    if pages.end == 0 {
-        return below.read_at(file, unit, into);
-    }
     let Ok(end) = below.len(file) else {
         spared.add(file, into.len());
         return Err(Failed);
@@ -106,7 +102,7 @@ fn read_units<D: Disk>(
     read_partly(layers, below, spared, file, unit, into)
 }
 
-/// Reads units over those below: one held unit, as most reads do, or any.
+/// Reads units over those below: of a file of which nothing is held, one held unit, as most reads do, or any.
 pub fn read_over<D: Disk>(
     layers: &Layers,
     below: &mut D,
@@ -119,7 +115,12 @@ pub fn read_over<D: Disk>(
     requires within { IsTrue D.tells → unit + length into.old / 16 ≤ length (file_of file (laid_files layers.now (D.files below.old))) }
     ensures { ReadsOver D.Disk layers.now file unit (length into.old) into.new result below.old below.new spared.old spared.new }
 {
-    if layers.file(file).copy_held(unit, into) {
+    let pages = layers.file(file);
+    // A file of which nothing is held reads as below, and its length need not be asked for.
+    if pages.end == 0 {
+        return below.read_at(file, unit, into);
+    }
+    if pages.copy_held(unit, into) {
         spared.add(file, into.len());
         return Ok(());
     }

@@ -1,6 +1,6 @@
-use Rattle.std.proofs.Common.{◌≡◌, ℕ, ◌+◌, ◌/◌, ◌≤◌, max, length, take, drop, refl, sym, ap, ◌∙◌, subst, arith}
-use Rattle.rpm_group.proofs.Vocabulary.{IsHeldBelow, File, file_of, file_of-laid, Files, laid_units, laid_file, laid_files, Layers, Pages, pages_of, unit_at, Units}
-use Rattle.rpm_group.proofs.Laids.{length-laid, laid_none}
+use Rattle.std.proofs.Common.{◌≡◌, ℕ, ◌+◌, ◌/◌, ◌≤◌, max, length, take, drop, refl, sym, ap, ◌∙◌, arith}
+use Rattle.rpm_group.proofs.Vocabulary.{File, file_of, file_of-laid, Files, laid_file, laid_files, Layers, Pages, pages_of, unit_at, Units}
+use Rattle.rpm_group.proofs.Laids.{length-laid}
 use Rattle.rpm_group.proofs.Spares.{counts_below, counts_spared, counts_after}
 use Rattle.rpm_group.proofs.Readouts.{on_ok_map, read_laid}
 use Rattle.rpm_group.proofs.over.read_partly.Goals as goal
@@ -12,15 +12,6 @@ length_over : (file : File) (layers : Layers) (files : Files) → length (file_o
 length_over file layers files = ap length (file_of-laid file layers files) ∙ length-laid (pages_of file layers).table.items (pages_of file layers).end
     (file_of file files)
 
--- a file of which nothing is held reads as below
-alone : (file : File) (layers : Layers) (files : Files) (pages : Pages) → pages ≡ pages_of file layers → pages.end ≡ 0
-    → file_of file (laid_files layers files) ≡ file_of file files
-alone file layers files pages is none =
-    file_of-laid file layers files
-    ∙ ap (λ (p : Pages). laid_file p (file_of file files)) (sym is)
-    ∙ ap (λ (e : ℕ). laid_units pages.table.items e (file_of file files)) none
-    ∙ laid_none pages.table.items (file_of file files) (subst (IsHeldBelow pages.table.items) none pages.past)
-
 never : (unit n below whole : ℕ) (file : File) (layers : Layers) (files : Files) (pages : Pages) → below ≡ length (file_of file files)
     → pages ≡ pages_of file layers → whole ≡ max below pages.end → unit + n ≤ length (file_of file (laid_files layers files)) → unit + n ≤ whole
 never unit n below whole file layers files pages long is max_is within =
@@ -28,17 +19,6 @@ never unit n below whole file layers files pages long is max_is within =
 
 pub read_at-requires-clause-within : goal.read_at-requires-clause-within
 read_at-requires-clause-within g c = λ told.
-    let same = alone c.args.file c.args.layers.now (g.D.Disk.files c.args.below.now) c.file-pages.result.now c.file-pages.ensures c.if-pages-eq0.true in
-    subst (λ (us : Units). c.args.unit + length c.args.into.now / 16 ≤ length us) same (c.requires.within told)
-
-pub returns-then-pages-eq0-clause-units : goal.returns-then-pages-eq0-clause-units
-returns-then-pages-eq0-clause-units g c =
-    let same = alone c.args.file c.args.layers.now (g.D.Disk.files c.args.below.now) c.file-pages.result.now c.file-pages.ensures c.if-pages-eq0.true in
-    on_ok_map c.read_at.result c.read_at.ensures.units
-    (λ read told. read told ∙ ap (λ (us : Units). take (length c.args.into.now / 16) (drop c.args.unit us)) (sym same))
-
-pub read_at-requires-then-unit-whole-clause-within : goal.read_at-requires-then-unit-whole-clause-within
-read_at-requires-then-unit-whole-clause-within g c = λ told.
     let fits = never c.args.unit (length c.args.into.now / 16) c.in-Ok.end c.max-whole.result c.args.file c.args.layers.now
     (g.D.Disk.files c.args.below.now) c.file-pages.result.now (c.in-Ok.ensures.length told) c.file-pages.ensures c.max-whole.ensures
     (c.requires.within told) in
@@ -49,7 +29,7 @@ read_at-requires-then-unit-whole-clause-within g c = λ told.
 
 pub returns-then-unit-whole-clause-units : goal.returns-then-unit-whole-clause-units
 returns-then-unit-whole-clause-units g c =
-    on_ok_map c.read_at-then-unit-whole.result c.read_at-then-unit-whole.ensures.units
+    on_ok_map c.read_at.result c.read_at.ensures.units
     (λ read told.
     let fits = never c.args.unit (length c.args.into.now / 16) c.in-Ok.end c.max-whole.result c.args.file c.args.layers.now
     (g.D.Disk.files c.args.below.now) c.file-pages.result.now (c.in-Ok.ensures.length told) c.file-pages.ensures c.max-whole.ensures
@@ -77,19 +57,15 @@ returns-clause-units g c = λ told.
     ∙ ap (λ (p : Pages). take n (drop c.args.unit (laid_file p file))) c.file-pages.ensures
     ∙ ap (λ (us : Units). take n (drop c.args.unit us)) (sym (file_of-laid c.args.file c.args.layers.now files))
 
-pub returns-then-pages-eq0-clause-counts : goal.returns-then-pages-eq0-clause-counts
-returns-then-pages-eq0-clause-counts g c = counts_below g.D.Disk c.args.file _ c.args.below.now c.read_at.new.self c.args.spared.now
-    c.read_at.ensures.reads
-
 pub returns-in_default-clause-counts : goal.returns-in_default-clause-counts
 returns-in_default-clause-counts g c = counts_spared g.D.Disk c.args.file _ _ c.args.below.now c.len.new.self c.args.spared.now
     c.add.new.self refl c.in_default.ensures.reads c.add.ensures
 
 pub returns-then-unit-whole-clause-counts : goal.returns-then-unit-whole-clause-counts
 returns-then-unit-whole-clause-counts g c = counts_after g.D.Disk c.args.file _ c.args.below.now c.len.new.self
-    c.read_at-then-unit-whole.new.self c.args.spared.now c.args.spared.now c.in-Ok.ensures.reads
-    (counts_below g.D.Disk c.args.file _ c.len.new.self c.read_at-then-unit-whole.new.self c.args.spared.now
-    c.read_at-then-unit-whole.ensures.reads)
+    c.read_at.new.self c.args.spared.now c.args.spared.now c.in-Ok.ensures.reads
+    (counts_below g.D.Disk c.args.file _ c.len.new.self c.read_at.new.self c.args.spared.now
+    c.read_at.ensures.reads)
 
 pub returns-in_err-read_below-clause-counts : goal.returns-in_err-read_below-clause-counts
 returns-in_err-read_below-clause-counts g c = counts_after g.D.Disk c.args.file _ c.args.below.now c.len.new.self c.read_below.new.below
