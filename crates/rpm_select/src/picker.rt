@@ -70,11 +70,12 @@ fn over(alloc: Global, numbers: Vec<u32>) -> Picker
 }
 
 impl Picker {
-    /// The least number above this one that is gone over.
-    pub(crate) fn next_number(&self, db: &Db, n: u32) -> Option<u32>
+    /// The least number above this one that is gone over. So many are supposed to be passed, and are supposed the next
+    /// time.
+    pub(crate) fn next_number(&self, db: &Db, n: u32, supposed: &mut usize) -> Option<u32>
         ensures { IsNext (reaches self.now db.now) n result }
     {
-        self.reach.next_above(db, n)
+        self.reach.next_above(db, n, supposed)
     }
 
     /// Begins to go through the packages that a selection picks. The other calls are for the same selection, and the
@@ -149,7 +150,8 @@ impl Picker {
     {
         let mut room = replace(&mut self.room, Vec::new(alloc));
         let mut passed = n;
-        while let Some(next) = self.next_number(db, passed) {
+        let mut supposed = 0;
+        while let Some(next) = self.next_number(db, passed, &mut supposed) {
             if next > last {
                 break;
             }

@@ -20,6 +20,8 @@ pub struct Recent {
     last: Option<Picked>,
     longest: Option<Picked>,
     keeps_longest: bool,
+    // How many of the numbers that an index gave are as far as the last one that was asked for.
+    passed: usize,
 }
 
 /// Whether a selection picks a package.
@@ -65,6 +67,7 @@ impl Recent {
             last: None,
             longest: None,
             keeps_longest: false,
+            passed: 0,
         }
     }
 
@@ -76,6 +79,7 @@ impl Recent {
             last: None,
             longest: None,
             keeps_longest: true,
+            passed: 0,
         }
     }
 
@@ -170,7 +174,7 @@ impl Picker {
         ensures asks { AsksPackages D.Disk (reach_next n self.now db.now result) disk.old disk.new db.now result }
     {
         let mut passed = n;
-        while let Some(next) = self.next_number(db, passed) {
+        while let Some(next) = self.next_number(db, passed, &mut recent.passed) {
             match recent.picks(alloc, db, disk, selection, next) {
                 Ok(false) => passed = next,
                 Ok(true) => return Ok(Some(next)),
