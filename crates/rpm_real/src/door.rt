@@ -60,6 +60,12 @@ impl Door {
         Err(Failed)
     }
 
+    /// Whether nothing is to be done before a read: the folder is open, and no lock is to be given back.
+    #[inline(always)]
+    pub fn is_settled(&self) -> bool {
+        self.is_open && !(self.may_write && self.purpose == Purpose::Keyed)
+    }
+
     /// A question has opened the database: from now on it doesn't write, and others may.
     pub fn leave_writing(&mut self) {
         if self.may_write && self.purpose == Purpose::Keyed {

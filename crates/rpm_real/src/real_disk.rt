@@ -1,8 +1,9 @@
 //! A disk over the files of a folder.
 
-ghost use Rattle.std.specs.Prelude.{◌≡◌, false, [], is_err};
-ghost use Rattle.rpm_outside.specs.Causes.{HasCause};
-ghost use Rattle.rpm_real.specs.Counts.{FaultCount};
+ghost use Rattle.std.specs.Prelude.{◌≡◌, false, [], is_err, length};
+ghost use Rattle.rpm_outside.specs.Causes.{HasCause, RoseBy};
+ghost use Rattle.rpm_outside.specs.Crash.{bytes_for};
+ghost use Rattle.rpm_real.specs.Counts.{FaultCount, count_of_file};
 
 use crate::door::Door;
 use crate::obstacle::Obstacle;
@@ -82,6 +83,29 @@ impl<'a, R: Files<File = fs::File> + Clock> RealDisk<'a, R> {
     }
 }
 
+impl<'a, R: Files<File = fs::File> + Clock> RealDisk<'a, R> {
+    /// Reads units of a file. (It isn't inlined, so that a read of a unit whose page is held stays short.)
+    #[inline(never)]
+    fn read_in(&mut self, file: File, unit: u64, into: &mut [u8]) -> Result<(), Failed>
+        ensures reads { (f : File) → RoseBy (count_of_file self.old.pkg.read self.old.idx.read self.old.log.read f)
+            (bytes_for file f (length into.old)) (count_of_file self.new.pkg.read self.new.idx.read self.new.log.read f) }
+        ensures moment { self.new.moment ≡ self.old.moment }
+        ensures cause { HasCause self.old.faults self.new.faults result }
+        ensures once { FaultCount (is_err result) self.old.faults self.new.faults }
+    {
+        let entered = self.door.enter(self.rt, &mut self.pkg);
+        if file == File::Idx && unit >= INDEX_HEAD {
+            self.door.leave_writing();
+        }
+        let answer = match file {
+            File::Pkg => self.pkg.read_at(self.rt, entered, unit, into),
+            File::Idx => self.idx.read_at(self.rt, entered, unit, into),
+            File::Log => self.log.read_at(self.rt, entered, unit, into),
+        };
+        counted(&mut self.faults, answer)
+    }
+}
+
 /// Counts a failure.
 fn counted<T: Copy>(faults: &mut u64, answer: Result<T, Failed>) -> Result<T, Failed>
     ensures cause { HasCause faults.old faults.new result }
@@ -131,16 +155,10 @@ impl<'a, R: Files<File = fs::File> + Clock> Disk for RealDisk<'a, R> {
     }
 
     fn read_at(&mut self, file: File, unit: u64, into: &mut [u8]) -> Result<(), Failed> {
-        let entered = self.door.enter(self.rt, &mut self.pkg);
-        if file == File::Idx && unit >= INDEX_HEAD {
-            self.door.leave_writing();
+        if file == File::Idx && self.door.is_settled() && self.idx.read_held(unit, into) {
+            return Ok(());
         }
-        let answer = match file {
-            File::Pkg => self.pkg.read_at(self.rt, entered, unit, into),
-            File::Idx => self.idx.read_at(self.rt, entered, unit, into),
-            File::Log => self.log.read_at(self.rt, entered, unit, into),
-        };
-        counted(&mut self.faults, answer)
+        self.read_in(file, unit, into)
     }
 
     fn write_at(&mut self, file: File, unit: u64, bytes: &[u8]) -> Result<(), Failed> {

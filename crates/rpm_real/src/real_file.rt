@@ -1,6 +1,6 @@
 //! One file of the database's folder.
 
-ghost use Rattle.std.specs.Prelude.{◌≡◌, ◌<◌, ◌≤◌, ◌+◌, ◌-◌, ◌^◌, min, length};
+ghost use Rattle.std.specs.Prelude.{◌≡◌, ◌<◌, ◌≤◌, ◌+◌, ◌-◌, ◌^◌, true, false, min, length};
 
 use crate::folder::Folder;
 use crate::obstacle::Obstacle;
@@ -87,17 +87,6 @@ impl RealFile {
         }
     }
 
-    /// Fills `into` from a byte on where a page that is held has all of it, and tells whether it did.
-    #[inline(always)]
-    fn fill_by_page(&mut self, offset: u64, into: &mut [u8]) -> bool
-        ensures { self.new.read ≡ self.old.read }
-    {
-        match (&self.file, &mut self.pages) {
-            (Some(file), Some(pages)) => pages.fill(file, offset, into),
-            _ => false,
-        }
-    }
-
     /// The number of its whole units: none where it isn't there. The system is asked once between two writes.
     pub fn units<R: Files<File = fs::File>>(
         &mut self,
@@ -125,6 +114,31 @@ impl RealFile {
         }
     }
 
+    /// Counts bytes that are asked for.
+    fn count(&mut self, bytes: usize)
+        ensures read { self.new.read ≡ min (self.old.read + bytes) (2 ^ 64 - 1) }
+        ensures later { self.old.read ≤ self.new.read }
+    {
+        self.read = self.read.saturating_add(bytes as u64);
+    }
+
+    /// Fills `into` with a unit whose page is held, and tells whether it did.
+    #[inline(always)]
+    pub fn read_held(&mut self, unit: u64, into: &mut [u8]) -> bool
+        ensures read { result ≡ true → self.new.read ≡ min (self.old.read + length into.old) (2 ^ 64 - 1) }
+        ensures later { self.old.read ≤ self.new.read }
+        ensures none { result ≡ false → self.new.read ≡ self.old.read }
+    {
+        let Some(pages) = &mut self.pages else {
+            return false;
+        };
+        if !pages.read_held(unit, into) {
+            return false;
+        }
+        self.count(into.len());
+        true
+    }
+
     /// Fills `into` from a unit on. A file that ends before is an error.
     #[inline(always)]
     pub fn read_at<R: Files<File = fs::File>>(
@@ -137,15 +151,20 @@ impl RealFile {
         ensures read { self.new.read ≡ min (self.old.read + length into.old) (2 ^ 64 - 1) }
         ensures later { self.old.read ≤ self.new.read }
     {
-        self.read = self.read.saturating_add(into.len() as u64);
+        self.count(into.len());
         entered?;
-        if unit < UNITS && self.fill_by_page(16 * unit, into) {
-            return Ok(());
+        if unit >= UNITS {
+            return Err(Failed);
+        }
+        if let (Some(file), Some(pages)) = (&self.file, &mut self.pages) {
+            if pages.are_due() {
+                return pages.read(file, unit, into);
+            }
         }
         self.open_to_read(rt)?;
         match &self.file {
-            Some(file) if unit < UNITS => fill(file, 16 * unit, into),
-            _ => Err(Failed),
+            Some(file) => fill(file, 16 * unit, into),
+            None => Err(Failed),
         }
     }
 

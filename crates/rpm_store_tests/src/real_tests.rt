@@ -189,11 +189,11 @@ fn what_a_signal_cuts_is_done_again(rt: HostRuntime) -> Result<(), Fail> {
 }
 
 // The units of a file: twice as many bytes as pages of it are held.
-const UNITS: u32 = 262_144;
+const UNITS: u32 = 1_048_576;
 
 // A file of these units, each of which says its own number, four times.
 fn numbered_file(alloc: Global) -> Result<Vec<u8>, AllocError> {
-    let mut file = Vec::with_capacity(alloc, 4_194_304)?;
+    let mut file = Vec::with_capacity(alloc, 16_777_216)?;
     for at in 0..UNITS {
         for _ in 0..4 {
             file.extend_from_slice(&at.to_le_bytes())?;
