@@ -2,9 +2,10 @@
 """What the documents say of the size of the tree: .ci/sizes.py [--write | --check]
 
 Prints the table of docs/FIGURES.md that has the lines, clauses, must-fail edits, tests and worked rows of each crate, and the sentence of
-README.md that sums it up. --write puts both into the documents, --check fails where they aren't current. Code and contracts are lines that are
-neither blank nor comments; what a ghost use brings belongs to contracts. Of the rest all lines of a file count. Clauses are those of functions,
-as .ci/clauses.py reads them. What crates of tests and rows have in src/ isn't counted as code. It needs Python 3 alone, and takes a second.
+README.md that sums it up. --write puts both into the documents, and into each row of the walks of crates/rpm_tool/README.md the lines of the
+function's body and of its clauses; --check fails where they aren't current. Code and contracts are lines that are neither blank nor comments;
+what a ghost use brings belongs to contracts. Of the rest all lines of a file count. Clauses are those of functions, as .ci/clauses.py reads
+them. What crates of tests and rows have in src/ isn't counted as code. It needs Python 3 alone, and takes a second.
 """
 import argparse
 import re
@@ -19,6 +20,7 @@ HEAD = ("| Crate | Code | Contracts | Clauses | Definitions | Laws | Proofs | Mu
         "|---|---|---|---|---|---|---|---|---|---|---|\n")
 TABLE = re.compile(r"\| Crate \| Code \|.*?\n\| in all \|[^\n]*\n", re.S)
 SENTENCE = re.compile(r"The tree has [\d,]+ crates\b[^.]*\.")
+WALKED = re.compile(r"^\| `(rpm_\w+)/(\w+\.rt):([\w:]+)` \|[ \d]*\|[ \d]*\|$", re.M)
 COUNTS = ("code", "contracts", "clauses", "specs", "laws", "proofs", "edits", "tests", "rows", "tried")
 
 
@@ -76,14 +78,34 @@ def counted():
     return table, sentence
 
 
+def function_lines(path, name):
+    """The lines of a function up to its body, and those of its body. Where the name has a type, it is the first such function of that type."""
+    owner, _, last = name.rpartition("::")
+    lines = path.read_text(encoding="utf-8").splitlines()
+    start = next(i for i, line in enumerate(lines) if not owner or re.match(rf"impl\b.*\b{owner}\b", line))
+    first = next(i for i in range(start, len(lines)) if re.match(rf" *(pub(\(crate\))? )?fn {last}\b", lines[i]))
+    indent = lines[first][:-len(lines[first].lstrip())]
+    begin = next(i for i in range(first, len(lines)) if lines[i].endswith(" {") or lines[i] == indent + "{")
+    end = next(i for i in range(begin, len(lines)) if lines[i] == indent + "}")
+    return lines[first:begin], lines[begin + 1:end]
+
+
+def walked(row):
+    """A row of a walk, with the lines of its function's body and of its clauses."""
+    crate, file, name = row.groups()
+    head, body = function_lines(TOP / "crates" / crate / "src" / file, name)
+    return f"| `{crate}/{file}:{name}` | {split_up(body)[0]} | {split_up(head)[1]} |"
+
+
 def documents():
-    """The two documents, each with its text as it is and as it should be."""
+    """The documents, each with its text as it is and as it should be."""
     table, sentence = counted()
-    for path, place, text in ((TOP / "README.md", SENTENCE, sentence), (TOP / "docs" / "FIGURES.md", TABLE, table)):
+    for path, place, text in ((TOP / "README.md", SENTENCE, lambda _: sentence), (TOP / "docs" / "FIGURES.md", TABLE, lambda _: table),
+                              (TOP / "crates" / "rpm_tool" / "README.md", WALKED, walked)):
         old = path.read_text(encoding="utf-8")
         if not place.search(old):
             sys.exit(f"{path.relative_to(TOP)} has no place for the counts")
-        yield path, old, place.sub(lambda _, made=text: made, old)
+        yield path, old, place.sub(text, old)
 
 
 def main():
