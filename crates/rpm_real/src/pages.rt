@@ -18,10 +18,10 @@ const MOST: usize = 4096;
 const FEW: u32 = 11_000;
 
 /// After how many reads by pages it is seen whether they are worth their loading.
-const TRIED: u32 = 4096;
+const TRIED: u32 = 512;
 
 /// How many of these may load a page: where each place of a file is read once, pages cost more than they spare.
-const LOADED: u32 = 3072;
+const LOADED: u32 = 480;
 
 /// A page: the unit with which it begins, how many bytes from there the file had, and in which room they are.
 #[derive(Clone, Copy)]
