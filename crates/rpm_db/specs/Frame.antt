@@ -1,15 +1,18 @@
 -- What stands around a call on a database: the disk, by the ghost members of its kind, which a clause names `D.Disk`.
 -- Short words for all clauses.
-use Rattle.std.specs.Prelude.{IsTrue}
+use Rattle.std.specs.Prelude.{◌≡◌, ◌↔◌, ℕ, false, IsTrue, Result, Err}
 use Rattle.std.specs.Ordering.{nat_cmp}
 use Rattle.std.specs.FinMap.{FinMap}
 use Rattle.rpm_outside.specs.declared.disk.Disk as disk
+use Rattle.rpm_outside.specs.declared.disk.File.TheVariants.{Pkg}
 use Rattle.rpm_outside.specs.Files.{Files}
-use Rattle.rpm_outside.specs.Frame.{DiskFault, CrashLeaves, images}
+use Rattle.rpm_outside.specs.Frame.{DiskFault, CrashLeaves, OnlyReads, images}
+use Rattle.rpm_pkgdb.specs.declared.blob.GetFault.{GetFault}
+use Rattle.rpm_pkgdb.specs.declared.blob.GetFault.TheVariants as fault
 use Rattle.rpm_db.specs.Changes as changes
 use Rattle.rpm_db.specs.Changes.{Change, IsChangedStill, apply}
 use Rattle.rpm_db.specs.Database.{Database, Keeps, KeepsIndex}
-use Rattle.rpm_db.specs.Database.{store_of}
+use Rattle.rpm_db.specs.Database.{holds, package_cost, store_of}
 use Rattle.rpm_db.specs.Database as database
 use Rattle.rpm_db.specs.Lawful.{AreLawful}
 use Rattle.rpm_db.specs.Runs as runs
@@ -28,6 +31,14 @@ module _ {D : Type 0} (d : disk.Ghosts D) where
   -- the value of a database is that of Packages.db as it reads
   abbrev pub IsStoreKept : D → Database → Type 0
   IsStoreKept it db = IsTrue d.tells → Keeps (d.files it).pkg db
+
+  -- a call read at most a package's blocks and did nothing else, the file still says the database, NoSuch comes exactly
+  -- where no package has the number, and a disk fault has its cause
+  pub record ReadsPackage {T : Type 0} (n : ℕ) (db : Database) (result : Result T GetFault) (old new : D) : Type 0 where
+    pub kept : IsStoreKept new db
+    pub absent : (result ≡ Err fault.NoSuch) ↔ (holds n db ≡ false)
+    pub looks : OnlyReads d Pkg (package_cost n db) old new
+    pub cause : DiskFault d (result ≡ Err fault.DiskFault) old new
 
   -- a database's index is what Hindex.db says on this disk
   abbrev pub IsIndexKept : D → Database → Type 0

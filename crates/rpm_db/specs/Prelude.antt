@@ -34,7 +34,7 @@ pub use Rattle.rpm_db.specs.Database.{IsNext, KeepsIndex, KeepsUnits, DatabaseOp
 pub use Rattle.rpm_db.specs.Database.{has_failed}
 pub use Rattle.rpm_db.specs.Database.{holds}
 pub use Rattle.rpm_db.specs.Database.{is_blank_database, is_indexed, next_package_number, store_of}
-pub use Rattle.rpm_db.specs.Frame.{Runs, RunsOr, packages_in, state_in}
+pub use Rattle.rpm_db.specs.Frame.{ReadsPackage, Runs, RunsOr, packages_in, state_in}
 pub use Rattle.rpm_db.specs.Gathering.{Balances, Gathers, IsGathering, IsLeftSuspended, IsOrdered, HasItsRows, OwesOn}
 pub use Rattle.rpm_db.specs.Gathering.{no_row_changes, resumed_database}
 pub use Rattle.rpm_db.specs.Gathering.{sealed_in, suspended_database}

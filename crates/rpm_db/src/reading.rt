@@ -1,8 +1,8 @@
 //! The bytes of one package.
 
-ghost use Rattle.std.specs.Prelude.{◌≡◌, ℕ, ◌+◌, ◌≤◌, ◌↔◌, IsTrue, false, Ok, Err, IfOk, MatchResult};
+ghost use Rattle.std.specs.Prelude.{ℕ, ◌+◌, ◌≤◌, IsTrue, Some, Ok, Err, IfOk, MatchResult};
 ghost use Rattle.std.specs.FinMap as finite;
-ghost use Rattle.rpm_db.specs.Prelude.{package_cost, CutIs, DiskFault, GetAnswer, holds, OnlyReads, package_of, Pkg, ReadAnswer, state_in};
+ghost use Rattle.rpm_db.specs.Prelude.{CutIs, GetAnswer, package_of, ReadAnswer, ReadsPackage, state_in};
 ghost use Rattle.rpm_db.specs.Database.{Keeps};
 
 use crate::database::Db;
@@ -38,11 +38,8 @@ impl Db {
     /// - `NoMemory` where the bytes find no memory.
     pub fn read<D: Disk>(&self, alloc: Global, disk: &mut D, n: u32) -> Result<Vec<u8>, GetFault>
         requires keeps { IsTrue D.tells → Keeps (D.files disk.old).pkg self.now }
-        ensures kept { IsTrue D.tells → Keeps (D.files disk.new).pkg self.now }
         ensures told { IsTrue D.tells → ReadAnswer (finite.get (state_in D.Disk disk.old self.now).packages n) result }
-        ensures absent { (result ≡ Err GetFault.NoSuch) ↔ (holds n self.now ≡ false) }
-        ensures looks { OnlyReads D.Disk Pkg (package_cost n self.now) disk.old disk.new }
-        ensures cause { DiskFault D.Disk (result ≡ Err GetFault.DiskFault) disk.old disk.new }
+        ensures reads { ReadsPackage D.Disk n self.now result disk.old disk.new }
     {
         self.read_in(disk, n, Vec::new(alloc))
     }
@@ -55,11 +52,8 @@ impl Db {
     /// Those of `read`, with the same causes.
     pub fn read_in<D: Disk>(&self, disk: &mut D, n: u32, room: Vec<u8>) -> Result<Vec<u8>, GetFault>
         requires keeps { IsTrue D.tells → Keeps (D.files disk.old).pkg self.now }
-        ensures kept { IsTrue D.tells → Keeps (D.files disk.new).pkg self.now }
         ensures told { IsTrue D.tells → ReadAnswer (finite.get (state_in D.Disk disk.old self.now).packages n) result }
-        ensures absent { (result ≡ Err GetFault.NoSuch) ↔ (holds n self.now ≡ false) }
-        ensures looks { OnlyReads D.Disk Pkg (package_cost n self.now) disk.old disk.new }
-        ensures cause { DiskFault D.Disk (result ≡ Err GetFault.DiskFault) disk.old disk.new }
+        ensures reads { ReadsPackage D.Disk n self.now result disk.old disk.new }
     {
         self.store.get_in(disk, n, room)
     }
@@ -76,11 +70,8 @@ impl Db {
     /// - `NoMemory` where the bytes find no memory.
     pub fn get<D: Disk>(&self, alloc: Global, disk: &mut D, n: u32) -> Result<Vec<u8>, GetFault>
         requires keeps { IsTrue D.tells → Keeps (D.files disk.old).pkg self.now }
-        ensures kept { IsTrue D.tells → Keeps (D.files disk.new).pkg self.now }
         ensures told { IsTrue D.tells → GetAnswer (finite.get (state_in D.Disk disk.old self.now).packages n) result }
-        ensures absent { (result ≡ Err GetFault.NoSuch) ↔ (holds n self.now ≡ false) }
-        ensures looks { OnlyReads D.Disk Pkg (package_cost n self.now) disk.old disk.new }
-        ensures cause { DiskFault D.Disk (result ≡ Err GetFault.DiskFault) disk.old disk.new }
+        ensures reads { ReadsPackage D.Disk n self.now result disk.old disk.new }
     {
         self.get_in(disk, n, Vec::new(alloc))
     }
@@ -92,11 +83,8 @@ impl Db {
     /// Those of `get`, with the same causes.
     pub fn get_in<D: Disk>(&self, disk: &mut D, n: u32, room: Vec<u8>) -> Result<Vec<u8>, GetFault>
         requires keeps { IsTrue D.tells → Keeps (D.files disk.old).pkg self.now }
-        ensures kept { IsTrue D.tells → Keeps (D.files disk.new).pkg self.now }
         ensures told { IsTrue D.tells → GetAnswer (finite.get (state_in D.Disk disk.old self.now).packages n) result }
-        ensures absent { (result ≡ Err GetFault.NoSuch) ↔ (holds n self.now ≡ false) }
-        ensures looks { OnlyReads D.Disk Pkg (package_cost n self.now) disk.old disk.new }
-        ensures cause { DiskFault D.Disk (result ≡ Err GetFault.DiskFault) disk.old disk.new }
+        ensures reads { ReadsPackage D.Disk n self.now result disk.old disk.new }
     {
         let blob = self.read_in(disk, n, room)?;
         cut_header(blob)

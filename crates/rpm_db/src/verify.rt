@@ -1,7 +1,7 @@
 //! Whether a package is sound.
 
-ghost use Rattle.std.specs.Prelude.{◌≡◌, ◌≢◌, ℕ, length, ◌+◌, ◌≤◌, ◌↔◌, IsTrue, false, Some, Err};
-ghost use Rattle.rpm_db.specs.Prelude.{package_cost, digest_differs, DiskFault, first_text, header, header_verdict, holds, immutable_digest, is_digest_wrong, OnlyReads, option_copied, option_map, Pkg, verdict, VerifyAnswer};
+ghost use Rattle.std.specs.Prelude.{◌≡◌, ◌≢◌, ℕ, length, ◌+◌, ◌≤◌, IsTrue, false, Some, Err};
+ghost use Rattle.rpm_db.specs.Prelude.{digest_differs, first_text, header, header_verdict, immutable_digest, is_digest_wrong, option_copied, option_map, ReadsPackage, verdict, VerifyAnswer};
 ghost use Rattle.rpm_db.specs.Database.{Keeps};
 
 use crate::database::Db;
@@ -11,6 +11,7 @@ use rpm_outside::Disk;
 use rpm_pkgdb::{Checked, GetFault};
 use rpm_tags::first_text;
 use std::alloc::Global;
+use std::mem::replace;
 
 /// What verifying a package says: the first that holds.
 #[derive(Clone, Copy, PartialEq, Eq)]
@@ -77,15 +78,40 @@ impl Db {
     pub fn verify<D: Disk>(&self, alloc: Global, disk: &mut D, n: u32) -> Result<Verdict, GetFault>
         requires keeps { IsTrue D.tells → Keeps (D.files disk.old).pkg self.now }
         requires runs { self.now.stopped ≡ false }
-        ensures kept { IsTrue D.tells → Keeps (D.files disk.new).pkg self.now }
         ensures told { IsTrue D.tells → VerifyAnswer (verdict (D.files disk.old).pkg self.now n) result }
-        ensures absent { (result ≡ Err GetFault.NoSuch) ↔ (holds n self.now ≡ false) }
         ensures never_bad { result ≢ Err GetFault.Bad }
-        ensures looks { OnlyReads D.Disk Pkg (package_cost n self.now) disk.old disk.new }
-        ensures cause { DiskFault D.Disk (result ≡ Err GetFault.DiskFault) disk.old disk.new }
+        ensures reads { ReadsPackage D.Disk n self.now result disk.old disk.new }
     {
-        match self.store.read_checked(alloc, disk, n) {
-            Ok(Checked { blob, holds }) => Ok(header_verdict(holds, &blob)),
+        let mut room = Vec::new(alloc);
+        self.verify_in(alloc, disk, n, &mut room)
+    }
+
+    /// What verifying a number says, as `verify` gives it. The package is read into a vector of the caller's, whatever it
+    /// holds, whose room the next one takes.
+    ///
+    /// # Errors
+    ///
+    /// Those of `verify`, with the same causes.
+    pub fn verify_in<D: Disk>(
+        &self,
+        alloc: Global,
+        disk: &mut D,
+        n: u32,
+        room: &mut Vec<u8>,
+    ) -> Result<Verdict, GetFault>
+        requires keeps { IsTrue D.tells → Keeps (D.files disk.old).pkg self.now }
+        requires runs { self.now.stopped ≡ false }
+        ensures told { IsTrue D.tells → VerifyAnswer (verdict (D.files disk.old).pkg self.now n) result }
+        ensures never_bad { result ≢ Err GetFault.Bad }
+        ensures reads { ReadsPackage D.Disk n self.now result disk.old disk.new }
+    {
+        let taken = replace(room, Vec::new(alloc));
+        match self.store.read_checked_in(disk, n, taken) {
+            Ok(Checked { blob, holds }) => {
+                let verdict = header_verdict(holds, &blob);
+                *room = blob;
+                Ok(verdict)
+            }
             Err(GetFault::Bad) => Ok(Verdict::BadHeader),
             Err(fault) => Err(fault),
         }

@@ -14,7 +14,7 @@ pub use Rattle.rpm_pkgdb.specs.Blobs.{blob_in, blobs, blocks_for, frame_of, fram
 pub use Rattle.rpm_pkgdb.specs.Checksums.{adler, checksum_holds, checksums_hold, sums}
 pub use Rattle.rpm_pkgdb.specs.Costs.{cost, opening_cost}
 pub use Rattle.rpm_pkgdb.specs.Damages.{damage_at, head_reason, own_reason, shared_reason, slot_units, table_fault}
-pub use Rattle.rpm_pkgdb.specs.Frame.{IsWritable, Quiet, CrashLeavesFile, pkg}
+pub use Rattle.rpm_pkgdb.specs.Frame.{IsWritable, Quiet, CrashLeavesFile, ReadsBlob, pkg}
 pub use Rattle.rpm_pkgdb.specs.Framing.{framed_blob, head_of, next_unit, padding, summed_bytes, tail_of}
 pub use Rattle.rpm_pkgdb.specs.Growing.{AreBehind, CanAdd, NeedsPage, grown, moving_cost, next_end}
 pub use Rattle.rpm_pkgdb.specs.laws.Parts.{moved_slot}

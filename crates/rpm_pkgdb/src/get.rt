@@ -1,7 +1,7 @@
 //! The blob of a number, read.
 
-ghost use Rattle.std.specs.Prelude.{◌≡◌, ◌≤◌, IsTrue, length, None, Some, Ok, Err, ◌↔◌, IfOk};
-ghost use Rattle.rpm_pkgdb.specs.Prelude.{AnswerIs, blobs, checksums_hold, cost, frame_in, frames, given_bytes, given_blob, given_check, KeepsStore, Pkg, ReadsOr, slot_with};
+ghost use Rattle.std.specs.Prelude.{◌≤◌, IsTrue, length, IfOk};
+ghost use Rattle.rpm_pkgdb.specs.Prelude.{AnswerIs, blobs, checksums_hold, frame_in, frames, given_bytes, given_blob, given_check, KeepsStore, ReadsBlob};
 ghost use Rattle.std.specs.FinMap as finite;
 
 use crate::blob::{Blocks, Checked, GetFault, read_blocks};
@@ -14,10 +14,8 @@ impl PkgDb {
     fn blocks<D: Disk>(&self, disk: &mut D, n: u32, room: Vec<u8>) -> Result<Blocks, GetFault>
         requires keeps { IsTrue D.tells → KeepsStore (D.files disk.old).pkg self.now }
         ensures long { IfOk result (λ b. 12 ≤ length b.rest.items) }
-        ensures kept { IsTrue D.tells → KeepsStore (D.files disk.new).pkg self.now }
         ensures told { IsTrue D.tells → AnswerIs frame_in (frames (D.files disk.old).pkg self.now n) result }
-        ensures absent { (result ≡ Err GetFault.NoSuch) ↔ (slot_with n self.now.slots ≡ None) }
-        ensures reads { ReadsOr D.Disk Pkg (cost n self.now) (result ≡ Err GetFault.DiskFault) disk.old disk.new }
+        ensures reads { ReadsBlob D.Disk n self.now result disk.old disk.new }
     {
         match self.slot_of(n) {
             None => Err(GetFault::NoSuch),
@@ -39,10 +37,8 @@ impl PkgDb {
     /// - `NoMemory` where the blob finds no memory.
     pub fn get<D: Disk>(&self, alloc: Global, disk: &mut D, n: u32) -> Result<Vec<u8>, GetFault>
         requires keeps { IsTrue D.tells → KeepsStore (D.files disk.old).pkg self.now }
-        ensures kept { IsTrue D.tells → KeepsStore (D.files disk.new).pkg self.now }
         ensures told { IsTrue D.tells → AnswerIs given_bytes (finite.get (blobs (D.files disk.old).pkg self.now) n) result }
-        ensures absent { (result ≡ Err GetFault.NoSuch) ↔ (slot_with n self.now.slots ≡ None) }
-        ensures reads { ReadsOr D.Disk Pkg (cost n self.now) (result ≡ Err GetFault.DiskFault) disk.old disk.new }
+        ensures reads { ReadsBlob D.Disk n self.now result disk.old disk.new }
     {
         self.get_in(disk, n, Vec::new(alloc))
     }
@@ -55,10 +51,8 @@ impl PkgDb {
     /// Those of `get`, with the same causes.
     pub fn get_in<D: Disk>(&self, disk: &mut D, n: u32, room: Vec<u8>) -> Result<Vec<u8>, GetFault>
         requires keeps { IsTrue D.tells → KeepsStore (D.files disk.old).pkg self.now }
-        ensures kept { IsTrue D.tells → KeepsStore (D.files disk.new).pkg self.now }
         ensures told { IsTrue D.tells → AnswerIs given_bytes (finite.get (blobs (D.files disk.old).pkg self.now) n) result }
-        ensures absent { (result ≡ Err GetFault.NoSuch) ↔ (slot_with n self.now.slots ≡ None) }
-        ensures reads { ReadsOr D.Disk Pkg (cost n self.now) (result ≡ Err GetFault.DiskFault) disk.old disk.new }
+        ensures reads { ReadsBlob D.Disk n self.now result disk.old disk.new }
     {
         let blocks = self.blocks(disk, n, room)?;
         Ok(blocks.into_blob())
@@ -78,10 +72,8 @@ impl PkgDb {
         n: u32,
     ) -> Result<bool, GetFault>
         requires keeps { IsTrue D.tells → KeepsStore (D.files disk.old).pkg self.now }
-        ensures kept { IsTrue D.tells → KeepsStore (D.files disk.new).pkg self.now }
         ensures told { IsTrue D.tells → AnswerIs (λ holds. holds) (checksums_hold (D.files disk.old).pkg self.now n) result }
-        ensures absent { (result ≡ Err GetFault.NoSuch) ↔ (slot_with n self.now.slots ≡ None) }
-        ensures reads { ReadsOr D.Disk Pkg (cost n self.now) (result ≡ Err GetFault.DiskFault) disk.old disk.new }
+        ensures reads { ReadsBlob D.Disk n self.now result disk.old disk.new }
     {
         let blocks = self.blocks(disk, n, Vec::new(alloc))?;
         Ok(blocks.checksum_holds())
@@ -101,13 +93,31 @@ impl PkgDb {
         n: u32,
     ) -> Result<Checked, GetFault>
         requires keeps { IsTrue D.tells → KeepsStore (D.files disk.old).pkg self.now }
-        ensures kept { IsTrue D.tells → KeepsStore (D.files disk.new).pkg self.now }
         ensures blob { IsTrue D.tells → AnswerIs given_blob (finite.get (blobs (D.files disk.old).pkg self.now) n) result }
         ensures holds { IsTrue D.tells → AnswerIs given_check (checksums_hold (D.files disk.old).pkg self.now n) result }
-        ensures absent { (result ≡ Err GetFault.NoSuch) ↔ (slot_with n self.now.slots ≡ None) }
-        ensures reads { ReadsOr D.Disk Pkg (cost n self.now) (result ≡ Err GetFault.DiskFault) disk.old disk.new }
+        ensures reads { ReadsBlob D.Disk n self.now result disk.old disk.new }
     {
-        let blocks = self.blocks(disk, n, Vec::new(alloc))?;
+        self.read_checked_in(disk, n, Vec::new(alloc))
+    }
+
+    /// The blob of a number, and whether the checksum in its tail is right, as `read_checked` gives them, in a vector of
+    /// the caller's, whatever it holds.
+    ///
+    /// # Errors
+    ///
+    /// Those of `get`, with the same causes. A wrong checksum is no error.
+    pub fn read_checked_in<D: Disk>(
+        &self,
+        disk: &mut D,
+        n: u32,
+        room: Vec<u8>,
+    ) -> Result<Checked, GetFault>
+        requires keeps { IsTrue D.tells → KeepsStore (D.files disk.old).pkg self.now }
+        ensures blob { IsTrue D.tells → AnswerIs given_blob (finite.get (blobs (D.files disk.old).pkg self.now) n) result }
+        ensures holds { IsTrue D.tells → AnswerIs given_check (checksums_hold (D.files disk.old).pkg self.now n) result }
+        ensures reads { ReadsBlob D.Disk n self.now result disk.old disk.new }
+    {
+        let blocks = self.blocks(disk, n, room)?;
         Ok(blocks.into_checked())
     }
 }

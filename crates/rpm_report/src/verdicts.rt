@@ -25,12 +25,13 @@ fn put_unsound<O: Sink + Drop>(
 }
 
 /// Verifies a package that is there, and tells its verdict where it isn't sound. Says whether the argument fails for
-/// it.
+/// it. It is read into the room of the one before.
 fn verify_one<D: Disk, O: Sink + Drop>(
     alloc: Global,
     db: &Db,
     disk: &mut D,
     number: u32,
+    room: &mut Vec<u8>,
     out: &mut Buffered<O>,
 ) -> Result<bool, Halt>
     requires asked { IsAskable D.Disk disk.old db.now }
@@ -44,7 +45,7 @@ fn verify_one<D: Disk, O: Sink + Drop>(
     ensures disk { DiskFault D.Disk (result ≡ Err Halt.DiskFault) disk.old disk.new }
     ensures out { Hand O.Sink (result ≡ Err Halt.OutFault) out.old out.new }
 {
-    match db.verify(alloc, disk, number) {
+    match db.verify_in(alloc, disk, number, room) {
         Ok(Verdict::Sound) => Ok(false),
         Ok(Verdict::BadHeader) => put_unsound(out, number, b"header cannot be read"),
         Ok(Verdict::BadChecksum) => put_unsound(out, number, b"checksum differs"),
@@ -75,11 +76,12 @@ pub fn report<D: Disk, O: Sink + Drop>(
     ensures disk { DiskFault D.Disk (result ≡ Why.DiskFault) disk.old disk.new }
     ensures out { Hand O.Sink (result ≡ Why.OutFault) out.old out.new }
 {
+    let mut room = Vec::new(alloc);
     let mut number = 0;
     let mut fails = false;
     while let Some(next) = db.next_above(number) {
         number = next;
-        match verify_one(alloc, db, disk, next, out) {
+        match verify_one(alloc, db, disk, next, &mut room, out) {
             Ok(unsound) => fails |= unsound,
             Err(halt) => return Why::from(halt),
         }

@@ -6,7 +6,7 @@ use Rattle.rpm_change.proofs.laws.Owing.{owing_then}
 use Rattle.rpm_change.proofs.rebuilding.drop_one.Goals as goal
 
 pub drop_bad-requires-clause-gathering : goal.drop_bad-requires-clause-gathering
-drop_bad-requires-clause-gathering g c = gathering_looked g.D.Disk c.requires.gathering c.get_in.ensures.looks
+drop_bad-requires-clause-gathering g c = gathering_looked g.D.Disk c.requires.gathering c.get_in.ensures.reads.looks
 
 pub returns-in-Ok-clause-went : goal.returns-in-Ok-clause-went
 returns-in-Ok-clause-went g c = λ p.
@@ -14,13 +14,13 @@ returns-in-Ok-clause-went g c = λ p.
     let said = c.in-Ok.ensures in
     went_as g.D.Disk {E = EndedOnOut g.O.Sink c.args.out.now c.args.out.now} idle (dropped_course n p) (λ both. both)
     (λ both. let same : p ≡ Good c.in-Ok.good.items = (let there = said.told both.0 in let is = both.1 in cc) in rw same refl) (λ s t e. e)
-    (looked_went g.D.Disk c.requires.gathering said.looks said.cause.later (λ both. both.0) (out_none g.O.Sink c.args.out.now))
+    (looked_went g.D.Disk c.requires.gathering said.reads.looks said.reads.cause.later (λ both. both.0) (out_none g.O.Sink c.args.out.now))
 
 pub returns-in-Err-Bad-clause-went : goal.returns-in-Err-Bad-clause-went
 returns-in-Err-Bad-clause-went g c = λ p.
     let n = c.args.number in
     let said = rw c.in-Err-Bad.field-0-is at c.in-Err-Bad.ensures in
-    let look = c.get_in.ensures in
+    let look = c.get_in.ensures.reads in
     went_as g.D.Disk (dropped_course n Bad) (dropped_course n p) (λ both. both.0)
     (λ both. let same : p ≡ Bad = (let there = said.told both.0 in let is = both.1 in cc) in rw same refl) (λ s t e. e)
     (went_behind g.D.Disk g.met.D.Disk.follows_trans (out_joins g.O.Sink c.args.out.now c.args.out.now c.drop_bad.new.out)
@@ -32,12 +32,12 @@ returns-in-Err-DiskFault-clause-went g c = λ p.
     let said = rw c.in-Err-DiskFault.field-0-is at c.in-Err-DiskFault.ensures in
     stopped_went g.D.Disk (dropped_course c.args.number p) halt.DiskFault (λ s t. out_gone g.O.Sink c.args.out.now (dropped_course c.args.number p))
     (λ i. refl) tt
-    (left_looked g.D.Disk c.requires.gathering c.get_in.ensures.looks (Err halt.DiskFault)
-    (record { later = c.get_in.ensures.cause.later; rose = λ is. said.cause.rose refl }))
+    (left_looked g.D.Disk c.requires.gathering c.get_in.ensures.reads.looks (Err halt.DiskFault)
+    (record { later = c.get_in.ensures.reads.cause.later; rose = λ is. said.reads.cause.rose refl }))
 
 pub returns-in-Err-NoMemory-clause-went : goal.returns-in-Err-NoMemory-clause-went
 returns-in-Err-NoMemory-clause-went g c = λ p.
     stopped_went g.D.Disk (dropped_course c.args.number p) halt.NoMemory (λ s t. out_gone g.O.Sink c.args.out.now (dropped_course c.args.number p))
     (λ i. refl) tt
-    (left_looked g.D.Disk c.requires.gathering c.get_in.ensures.looks (Err halt.NoMemory)
-    (record { later = c.get_in.ensures.cause.later; rose = λ is. absurd cc }))
+    (left_looked g.D.Disk c.requires.gathering c.get_in.ensures.reads.looks (Err halt.NoMemory)
+    (record { later = c.get_in.ensures.reads.cause.later; rose = λ is. absurd cc }))

@@ -69,8 +69,8 @@ returns-then-fails-clause-went g c = λ told et e.
     went_failing _ _ _ Anywhere (rw c.if-fails.true at (told_end Anywhere (no_entry _ c.loop-next.number (c.in_default.ensures.told file))
     (from_one file c.args.db.now (c.requires.asked.keeps told)) (c.loop-next.invariant.told told et e)))
 
-pub returns-else-fails-clause-went : goal.returns-else-fails-clause-went
-returns-else-fails-clause-went g c = λ told et e.
+pub returns-clause-went : goal.returns-clause-went
+returns-clause-went g c = λ told et e.
     let file = (g.D.Disk.files c.args.disk.now).pkg in
     went_sound _ _ _ Anywhere (rw c.if-fails.false at (told_end Anywhere (no_entry _ c.loop-next.number (c.in_default.ensures.told file))
     (from_one file c.args.db.now (c.requires.asked.keeps told)) (c.loop-next.invariant.told told et e)))
@@ -79,6 +79,6 @@ pub returns-then-fails-clause-looks : goal.returns-then-fails-clause-looks
 returns-then-fails-clause-looks g c =
     looks_more _ Pkg _ _ _ _ (omega (arith, cost_some c.args.db.now c.loop-next.number)) c.loop-next.invariant.looks
 
-pub returns-else-fails-clause-looks : goal.returns-else-fails-clause-looks
-returns-else-fails-clause-looks g c =
+pub returns-clause-looks : goal.returns-clause-looks
+returns-clause-looks g c =
     looks_more _ Pkg _ _ _ _ (omega (arith, cost_some c.args.db.now c.loop-next.number)) c.loop-next.invariant.looks

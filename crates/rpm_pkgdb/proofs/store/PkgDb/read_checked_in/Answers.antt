@@ -3,7 +3,7 @@ use Rattle.rpm_pkgdb.proofs.Vocabulary.{AnswerIs, blobs, frame_in, given_blob}
 use Rattle.std.specs.FinMap as finite
 use Rattle.rpm_pkgdb.proofs.Changing.{err_given}
 use Rattle.rpm_pkgdb.proofs.Told.{at_frames, fault_told}
-use Rattle.rpm_pkgdb.proofs.store.PkgDb.read_checked.Goals as goal
+use Rattle.rpm_pkgdb.proofs.store.PkgDb.read_checked_in.Goals as goal
 
 pub returns-in_err-blocks-clause-blob : goal.returns-in_err-blocks-clause-blob
 returns-in_err-blocks-clause-blob g c = λ told.

@@ -2,7 +2,7 @@ use Rattle.std.proofs.Common.{◌≡◌, Some, subst}
 use Rattle.rpm_db.proofs.Vocabulary.{Database, database_of, verdict}
 use Rattle.rpm_db.specs.declared.verify.Verdict.TheVariants.{BadHeader}
 use Rattle.rpm_db.proofs.Answers.{broken}
-use Rattle.rpm_db.proofs.database.Db.verify.Goals as goal
+use Rattle.rpm_db.proofs.database.Db.verify_in.Goals as goal
 
 pub returns-in-Err-Bad-clause-told : goal.returns-in-Err-Bad-clause-told
 returns-in-Err-Bad-clause-told g c = λ told.
