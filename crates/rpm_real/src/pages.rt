@@ -11,8 +11,9 @@ use std::os::unix::fs::FileExt;
 /// The bytes of a page, which are 128 units.
 const SIZE: usize = 2048;
 
-/// How many pages are held at most. Each has one place, which the next one with that place takes.
-const MOST: usize = 4096;
+/// How many slots there are, so that many pages are held at most. Each page has one slot, which the next page with that
+/// slot takes.
+const SLOTS: usize = 4096;
 
 /// How many reads come before the first page: who reads less holds none.
 const FEW: u32 = 11_000;
@@ -23,32 +24,33 @@ const TRIED: u32 = 512;
 /// How many of these may load a page: where each place of a file is read once, pages cost more than they spare.
 const LOADED: u32 = 480;
 
-/// A page: the unit with which it begins, how many bytes from there the file had, and in which room they are.
+/// A page: the unit with which it begins, how many bytes from there the file had, and the number of the frame that holds
+/// them.
 #[derive(Clone, Copy)]
 struct Page {
     start: u64,
     filled: usize,
-    room: usize,
+    frame: usize,
 }
 
-/// Where a unit is: at which place its page is held, with which unit that begins, and at which of its bytes it is.
+/// Where a unit is: the slot of its page, the unit with which that page begins, and how many of its bytes come before.
 #[derive(Clone, Copy)]
-struct Spot {
-    place: usize,
+struct Address {
+    slot: usize,
     start: u64,
-    within: usize,
+    offset: usize,
 }
 
-impl Spot {
+impl Address {
     #[inline(always)]
-    fn of(unit: u64) -> Spot
+    fn of(unit: u64) -> Address
         ensures start { result.start ≤ unit }
-        ensures within { result.within ≡ 16 * (unit % 128) }
+        ensures offset { result.offset ≡ 16 * (unit % 128) }
     {
-        Spot {
-            place: (unit / 128) as usize % MOST,
+        Address {
+            slot: (unit / 128) as usize % SLOTS,
             start: unit - unit % 128,
-            within: 16 * (unit % 128) as usize,
+            offset: 16 * (unit % 128) as usize,
         }
     }
 }
@@ -74,35 +76,43 @@ impl Trial {
         }
     }
 
-    /// Counts a read, and tells whether pages are asked for it.
-    fn is_due(&mut self) -> bool {
+    /// Lets a read pass without pages, while some still have to, and tells whether it did.
+    fn pass(&mut self) -> bool {
         if self.passed < self.few {
             self.passed += 1;
-            return false;
+            return true;
         }
-        true
+        false
     }
 
-    /// Counts a read by a page, and tells whether it is to be seen now if they are worth it.
-    fn is_over(&mut self, is_loaded: bool) -> bool {
+    /// Counts a read by a page.
+    fn count(&mut self, is_loaded: bool) {
         self.tried = self.tried.wrapping_add(1);
         if is_loaded {
             self.loaded = self.loaded.wrapping_add(1);
         }
+    }
+
+    /// Whether it is to be seen now if pages are worth it.
+    fn is_over(&self) -> bool {
         self.tried >= TRIED
     }
 
-    /// Begins anew, and tells whether pages are left alone: too many reads loaded one. Then twice as many as before pass
-    /// without pages.
-    fn is_in_vain(&mut self) -> bool {
-        let is_in_vain = self.loaded > LOADED;
-        if is_in_vain {
-            self.passed = 0;
-            self.few = self.few.saturating_mul(2);
-        }
+    /// Whether pages aren't worth it: too many reads loaded one.
+    fn is_in_vain(&self) -> bool {
+        self.loaded > LOADED
+    }
+
+    /// Has twice as many reads as before pass without pages.
+    fn put_off(&mut self) {
+        self.passed = 0;
+        self.few = self.few.saturating_mul(2);
+    }
+
+    /// Begins to count reads by pages anew.
+    fn restart(&mut self) {
         self.tried = 0;
         self.loaded = 0;
-        is_in_vain
     }
 }
 
@@ -110,18 +120,18 @@ impl Trial {
 #[derive(Drop)]
 pub struct Pages {
     trial: Trial,
-    // What is held at each place, once something is.
-    places: Vec<Option<Page>>,
-    // The bytes of the pages: a room for each place that had one.
-    rooms: Vec<[u8; SIZE]>,
+    // The page of each slot, once one is held.
+    slots: Vec<Option<Page>>,
+    // The bytes of the pages: a frame for each slot that had one.
+    frames: Vec<[u8; SIZE]>,
 }
 
 impl Pages {
     pub fn new(alloc: Global) -> Pages {
         Pages {
             trial: Trial::new(),
-            places: Vec::new(alloc),
-            rooms: Vec::new(alloc),
+            slots: Vec::new(alloc),
+            frames: Vec::new(alloc),
         }
     }
 
@@ -133,8 +143,8 @@ impl Pages {
 
     /// Lets all pages go.
     fn let_go(&mut self) {
-        self.places.clear();
-        self.rooms.clear();
+        self.slots.clear();
+        self.frames.clear();
     }
 
     /// After some reads by pages, lets them go where they aren't worth it.
@@ -142,29 +152,32 @@ impl Pages {
     #[inline(never)]
     fn conclude(&mut self) {
         if self.trial.is_in_vain() {
+            self.trial.put_off();
             self.let_go();
         }
+        self.trial.restart();
     }
 
     /// Counts a read by a page.
     #[inline(always)]
     fn count(&mut self, is_loaded: bool) {
-        if self.trial.is_over(is_loaded) {
+        self.trial.count(is_loaded);
+        if self.trial.is_over() {
             self.conclude();
         }
     }
 
-    /// Fills `into` from a spot on, where the page is held and has all of it, and tells whether it did.
+    /// Fills `into` from an address on, where the page is held and has all of it, and tells whether it did.
     #[inline(always)]
-    fn copy_held(&self, spot: Spot, into: &mut [u8]) -> bool
-        requires { spot.within + length into.old ≤ 2048 }
+    fn copy_held(&self, address: Address, into: &mut [u8]) -> bool
+        requires { address.offset + length into.old ≤ 2048 }
     {
-        let end = spot.within + into.len();
-        match self.places.get(spot.place) {
-            Some(Some(page)) if page.start == spot.start && page.filled >= end => {
-                match self.rooms.get(page.room) {
+        let end = address.offset + into.len();
+        match self.slots.get(address.slot) {
+            Some(Some(page)) if page.start == address.start && page.filled >= end => {
+                match self.frames.get(page.frame) {
                     Some(bytes) => {
-                        into.copy_from_slice(&bytes[spot.within..end]);
+                        into.copy_from_slice(&bytes[address.offset..end]);
                         true
                     }
                     None => false,
@@ -174,45 +187,45 @@ impl Pages {
         }
     }
 
-    /// The room of a place's page. A place that had none gets a new one.
-    fn room_of(&mut self, place: usize) -> Result<usize, AllocError> {
-        if let Some(Some(page)) = self.places.get(place) {
-            return Ok(page.room);
+    /// Claims a frame for the page of a slot, and gives its number. A slot that had none gets a new one.
+    fn claim_frame(&mut self, slot: usize) -> Result<usize, AllocError> {
+        if let Some(Some(page)) = self.slots.get(slot) {
+            return Ok(page.frame);
         }
-        self.places.resize(MOST, None)?;
-        self.rooms.push([0; SIZE])?;
-        Ok(self.rooms.len() - 1)
+        self.slots.resize(SLOTS, None)?;
+        self.frames.push([0; SIZE])?;
+        Ok(self.frames.len() - 1)
     }
 
-    /// Loads the page of a spot, which has no bytes where it can't be read.
-    fn load(&mut self, file: &fs::File, spot: Spot) -> Result<(), AllocError>
-        requires { spot.start < 2 ^ 58 }
+    /// Loads the page of an address, which has no bytes where it can't be read.
+    fn load(&mut self, file: &fs::File, address: Address) -> Result<(), AllocError>
+        requires { address.start < 2 ^ 58 }
     {
-        let room = self.room_of(spot.place)?;
-        let filled = match self.rooms.get_mut(room) {
-            Some(bytes) => file.read_at(bytes, 16 * spot.start).unwrap_or(0),
+        let frame = self.claim_frame(address.slot)?;
+        let filled = match self.frames.get_mut(frame) {
+            Some(bytes) => file.read_at(bytes, 16 * address.start).unwrap_or(0),
             None => 0,
         };
-        if let Some(held) = self.places.get_mut(spot.place) {
+        if let Some(held) = self.slots.get_mut(address.slot) {
             *held = Some(Page {
-                start: spot.start,
+                start: address.start,
                 filled: filled.min(SIZE),
-                room,
+                frame,
             });
         }
         Ok(())
     }
 
-    /// Whether pages are asked for a read.
+    /// Lets a read pass without pages, while some still have to, and tells whether it did.
     #[inline(always)]
-    pub fn are_due(&mut self) -> bool {
-        self.trial.is_due()
+    pub fn pass(&mut self) -> bool {
+        self.trial.pass()
     }
 
     /// Fills `into` with a unit whose page is held, and tells whether it did.
     #[inline(always)]
     pub fn read_held(&mut self, unit: u64, into: &mut [u8]) -> bool {
-        if into.len() != 16 || !self.copy_held(Spot::of(unit), into) {
+        if into.len() != 16 || !self.copy_held(Address::of(unit), into) {
             return false;
         }
         self.count(false);
@@ -224,12 +237,12 @@ impl Pages {
     pub fn read(&mut self, file: &fs::File, unit: u64, into: &mut [u8]) -> Result<(), Failed>
         requires { unit < 2 ^ 58 }
     {
-        let spot = Spot::of(unit);
-        if into.len() > SIZE - spot.within {
+        let address = Address::of(unit);
+        if into.len() > SIZE - address.offset {
             return fill(file, 16 * unit, into);
         }
-        let is_held = self.copy_held(spot, into);
-        if is_held || (self.load(file, spot).is_ok() && self.copy_held(spot, into)) {
+        let is_held = self.copy_held(address, into);
+        if is_held || (self.load(file, address).is_ok() && self.copy_held(address, into)) {
             self.count(!is_held);
             return Ok(());
         }

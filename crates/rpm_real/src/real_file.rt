@@ -157,7 +157,7 @@ impl RealFile {
             return Err(Failed);
         }
         if let (Some(file), Some(pages)) = (&self.file, &mut self.pages) {
-            if pages.are_due() {
+            if !pages.pass() {
                 return pages.read(file, unit, into);
             }
         }
