@@ -1,5 +1,6 @@
 pub mod Cuts
 pub mod Dashes
+pub mod EvrCuts
 pub mod EvrLaws
 pub mod Fronts
 pub mod Laws

@@ -79,7 +79,7 @@ impl<'a> Evr<'a> {
     /// The digits that a text begins with, perhaps none, are its epoch where a colon follows them.
     /// What stands before the last dash after it is the version, and what follows that dash is the
     /// release. Each text has these parts: nothing is refused. Goes over the text twice at most.
-    #[tactic(auto, unfolding(crate::specs::Evr::evr, crate::specs::inner::Cuts::has_epoch, crate::specs::inner::Cuts::epoch_of, crate::specs::inner::Cuts::behind_epoch, crate::specs::inner::Cuts::version_of, crate::specs::inner::Cuts::release_of))]
+    #[tactic(auto, using(crate::proofs::EvrCuts::evr_by_cuts))]
     pub fn read(text: &'a [u8]) -> Self
         ensures { result ≡ evr text.now }
     {
