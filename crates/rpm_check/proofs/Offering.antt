@@ -1,5 +1,5 @@
 -- What the packages provide under a name says which of them meet a requirement of that name.
-use Rattle.std.proofs.Common.{◌≡◌, ℕ, List, [], ◌∷◌, ◌++◌, map, ◌==◌, ◌||◌, Bool, true, false, Ok, Some, Err, refl, sym, ap, ◌∙◌, inl, inr, append_assoc, append-nil}
+use Rattle.std.proofs.Common.{◌≡◌, ℕ, List, [], ◌∷◌, ◌++◌, map, ◌==◌, ◌||◌, Bool, true, false, Ok, Some, Err, refl, sym, ap, ◌∙◌, inl, inr, append_assoc, append-nil, subst}
 use Rattle.std.specs.Prelude.{◌&&◌, Result, slice_index}
 use Rattle.std.specs.FinMap as finite
 use Rattle.std.proofs.lemmas.Bool.{and_parts, cases_Bool}
@@ -173,6 +173,24 @@ module _ (all : FinMap nat_cmp Package) (name : List ℕ) (sorted : List Offer) 
     pub offered_same : (p : ℕ × (ℕ × List ℕ) → Bool) → list_any (λ o. p (offer_in o)) sorted ≡ list_any p (offered_ranges name all)
     unfolding IsOffered
     offered_same = offered.1
+
+-- what is kept under a plain name, and is looked through
+module _ (all : FinMap nat_cmp Package) (need : Need) {kept run : List Offer} (offered : IsOffered all need.name kept)
+    (plain : (slice_index need.name 0 == 47) ≡ false) (looked : run ≡ kept) where
+  kept_order : IsSorted offer_order run
+  kept_order = subst (IsSorted offer_order) (sym looked) (offered_order all need.name kept offered)
+
+  kept_same : (p : ℕ × (ℕ × List ℕ) → Bool) → list_any (λ o. p (offer_in o)) run ≡ list_any p (offered_ranges need.name all)
+  kept_same p = ap (list_any (λ (o : Offer). p (offer_in o))) looked ∙ offered_same all need.name kept offered p
+
+  pub met_kept : (met : Bool) → (IsSorted offer_order run → met ≡ list_any (λ o. hits need (offer_in o)) run) → met ≡ is_met all need
+  met_kept met same = same kept_order ∙ kept_same (hits need) ∙ met_by_offers all need plain
+
+  pub givers_kept : (ns : List ℕ) → IsStrictlyIncreasing ns
+      → (IsSorted offer_order run → (n : ℕ) → is_in n ns ≡ list_any (λ o. (o.number == n) && hits need (offer_in o)) run)
+      → ns ≡ givers all need
+  givers_kept ns rising same =
+      givers_by_offers all need plain ns rising (λ n. same kept_order n ∙ kept_same (λ o. (o.0 == n) && hits need o))
 
 -- ---- one after the other
 

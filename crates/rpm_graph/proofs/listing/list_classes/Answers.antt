@@ -6,6 +6,7 @@ use Rattle.std.proofs.lemmas.List.Elements.{Contains-append_left, Contains-push,
 use Rattle.rpm_graph.proofs.Beginning.{none_listed}
 use Rattle.rpm_graph.proofs.Marking.{marked_there, marked_stays, marked_other, marked_fewer}
 use Rattle.rpm_graph.proofs.Popping.{popped_class, popped_underway, popped_taken, popped_placed, is_least, least_more, all_listed}
+use Rattle.rpm_graph.proofs.listing.list_classes.Goals.{After-listing-in-Some-1}
 use Rattle.rpm_graph.proofs.listing.list_classes.Goals as goal
 
 pub loop-first-init : goal.loop-first-init
@@ -46,18 +47,11 @@ list-requires c =
 
 pub loop-first-smaller : goal.loop-first-smaller
 loop-first-smaller c =
-    let ends = row_lists c.args.ends.now in
-    let leasts = c.args.leasts.now in
-    let s = c.loop-first.listing in
-    let t : Listing = record { checked = s.checked; waiting = s.waiting; listed = s.listed; ready = c.pop_first.new.self } in
-    let inv = c.loop-first.invariant in
-    let n = c.in-Some.first.0 in
-    let class = c.in-Some.first.1 in
-    let removed = c.in-Some.ensures.removal in
-    let above = c.in-Some.ensures.all_above in
-    let class_is = popped_class ends leasts s t inv.underway n class refl refl refl removed above in
-    let inside : class < length s.listed.items = omega (arith, class_is.0, inv.underway.listed_long) in
-    rw c.in_ok-list.ensures.listed (marked_fewer s.listed.items class inside class_is.2)
+    let asked = list-requires (goal.at.loop-first-smaller c).After-listing-in-Some-1 in
+    let listed = c.loop-first.listing.listed.items in
+    let inside : c.in-Some.first.1 < length listed =
+    omega (arith, asked.inside, length-map c.args.ends.now (λ r. r.items), c.loop-first.invariant.underway.listed_long) in
+    rw c.in_ok-list.ensures.listed (marked_fewer listed c.in-Some.first.1 inside asked.unlisted)
 
 pub loop-first-preserved : goal.loop-first-preserved
 loop-first-preserved c =
@@ -66,18 +60,16 @@ loop-first-preserved c =
     let s = c.loop-first.listing in
     let t : Listing = record { checked = s.checked; waiting = s.waiting; listed = s.listed; ready = c.pop_first.new.self } in
     let inv = c.loop-first.invariant in
-    let n = c.in-Some.first.0 in
     let class = c.in-Some.first.1 in
-    let removed = c.in-Some.ensures.removal in
-    let above = c.in-Some.ensures.all_above in
-    let class_is = popped_class ends leasts s t inv.underway n class refl refl refl removed above in
-    let inside : class < length s.listed.items = omega (arith, class_is.0, inv.underway.listed_long) in
+    let asked = list-requires (goal.at.loop-first-preserved c).After-listing-in-Some-1 in
+    let inside : class < length s.listed.items = omega (arith, asked.inside, length-map c.args.ends.now (λ r. r.items), inv.underway.listed_long) in
     let placed : (x : ℕ) → x < length ends → listed_at s.listed.items x ≡ false → IsReadyOrWaits leasts s x
     = λ x lt free. inv.placed x (omega (arith, lt, length-map c.args.ends.now (λ r. r.items))) free in
     let order = c.loop-first.order.items in
     let e = c.in_ok-list.ensures in
     let more = c.in_ok-push.ensures.items in
-    let next = is_least ends leasts s t inv.underway n class refl refl refl removed above order inv.there inv.back placed in
+    let next = is_least ends leasts s t inv.underway c.in-Some.first.0 class refl refl refl c.in-Some.ensures.removal c.in-Some.ensures.all_above order
+    inv.there inv.back placed in
     record {
       underway = e.underway;
       placed = e.placed;
