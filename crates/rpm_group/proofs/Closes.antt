@@ -1,10 +1,10 @@
 -- What a crash leaves while a log is closed.
-use Rattle.std.proofs.Common.{◌≡◌, ⊎_elim, ℕ, ◌<◌, List, [], ◌∷◌, length, true, refl, sym, ap, subst, ◌∙◌}
+use Rattle.std.proofs.Common.{◌≡◌, ⊎_elim, ℕ, ◌<◌, ◌≤◌, IsTrue, List, [], ◌∷◌, length, true, refl, sym, ap, subst, ◌∙◌, arith}
 use Rattle.rpm_outside.specs.declared.disk.Disk as disk
 use Rattle.rpm_group.proofs.Vocabulary.{blank_closed, Closed, closing, Elapses, entries_done, entries_log, Entry, Files, first_unit, is_blank_unit, IsOpen}
-use Rattle.rpm_group.proofs.Vocabulary.{IsSound, leaves_weaker, CrashLeavesOnly, Log, log_not_log, log_state, LogState, NotLog, one_more, OnlyAfter, Open, with_units}
-use Rattle.rpm_group.proofs.Vocabulary.{reopened_files, reopened_open, reopened_within, ReopensAs, started, torn_first, TornFile, unit_at, Units, without_log}
-use Rattle.rpm_group.proofs.Vocabulary.{unlogged_entries, WasWithin, with_entries, with_file, Within, within_log}
+use Rattle.rpm_group.proofs.Vocabulary.{IsSound, leaves_weaker, CrashLeavesOnly, Log, log_not_log, log_state, LogState, NotLog, one_more, OnlyAfter, Open}
+use Rattle.rpm_group.proofs.Vocabulary.{with_units, reopened_files, reopened_open, reopened_within, ReopensAs, started, sync_leaves, torn_first, TornFile}
+use Rattle.rpm_group.proofs.Vocabulary.{unit_at, Units, without_log, unlogged_entries, WasWithin, with_entries, with_file, Within, within_log}
 
 -- a log that is closed or open isn't malformed
 pub closed_sound : (log : Units) → log_state log ≡ Closed → IsSound (log_state log)
@@ -27,6 +27,14 @@ closing_sound unit from image entries blank some is torn = ⊎_elim
     (torn_first unit from image some torn)
 
 module _ {D : Type 0} (g : disk.Ghosts D) where
+  -- a sync after it leaves what was left before
+  pub synced_leaves : IsTrue g.tells
+      → ((disk : D) (s t : ℕ) (image : Files) → IsTrue g.tells → s ≤ t → t ≤ g.moment disk → g.left_since disk t image → g.left_since disk s image)
+      → (old mid new : D) (P : Files → Type 0) → CrashLeavesOnly g old mid P → Elapses (g.moment mid) (g.moment new) (g.left_since mid) (g.left_since new)
+      → ((image : Files) → g.left_since new (g.moment new) image → g.left_since mid (g.moment mid) image) → CrashLeavesOnly g old new P
+  synced_leaves told earlier old mid new P run time images =
+      sync_leaves g old mid new P run time images (λ image left. earlier mid (g.moment old) (g.moment mid) image told run.later (omega arith) left)
+
   -- the write of the commit record
   pub closing_leaves : (old new : D) (files : Files) (unit : List ℕ) (entries : List Entry) → is_blank_unit unit ≡ true → 0 < length files.log
       → log_state files.log ≡ Open entries → with_entries entries (without_log files) ≡ without_log files

@@ -4,7 +4,7 @@ use Rattle.std.specs.Prelude.{Bool, not}
 use Rattle.std.proofs.lemmas.List.{length-take, length-drop, get_or-take, get_or-drop}
 use mathlib.Core.Bool.{beq}
 
-differs : (mark held : Bool) → beq mark held ≡ false → mark ≡ not held
+pub differs : (mark held : Bool) → beq mark held ≡ false → mark ≡ not held
 differs true true unlike = absurd cc
 differs true false unlike = refl
 differs false true unlike = refl

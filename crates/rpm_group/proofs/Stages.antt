@@ -1,9 +1,9 @@
 -- One stage of a commit after another.
 use Rattle.std.proofs.Common.{◌≡◌, inl, inr, ⊎_elim, ℕ, ◌≤◌, List, refl, ap, subst, ◌∙◌, arith}
 use Rattle.rpm_outside.specs.declared.disk.Disk as disk
-use Rattle.rpm_group.proofs.Vocabulary.{BeforeOrAfter, blank_closed, IsChangedInRange, Closed, closed_blank, Entry, Files, is_blank_unit, IsTransaction, Layers, leaves_then}
-use Rattle.rpm_group.proofs.Vocabulary.{leaves_weaker, CrashChanges, CrashLeavesOnly, Log, log_state, Open, reopened_files, reopened_closed, reopened_open, ReopensAs}
-use Rattle.rpm_group.proofs.Vocabulary.{without_log, WasChanged, WasWithin, with_entries, with_held}
+use Rattle.rpm_group.proofs.Vocabulary.{BeforeOrAfter, blank_closed, IsChangedInRange, Closed, closed_blank, Entry, Files, is_blank_unit, IsTransaction}
+use Rattle.rpm_group.proofs.Vocabulary.{KeepsBehind, Layers, leaves_then, leaves_weaker, CrashChanges, CrashLeavesOnly, Log, log_state, needed_units, Open}
+use Rattle.rpm_group.proofs.Vocabulary.{reopened_files, reopened_closed, reopened_open, ReopensAs, without_log, WasChanged, WasWithin, with_entries, with_held}
 use Rattle.rpm_group.proofs.Closes.{written_leaves, closed_sound}
 
 pub still_closed : (old new : Files) (first end : ℕ) → 1 ≤ first → log_state old.log ≡ Closed → IsChangedInRange Log first end old new
@@ -52,6 +52,11 @@ module _ (held : Layers) (files first : Files) (same : without_log first ≡ wit
 -- a file isn't in the transaction's log
 pub unlogged_changed : (files new : Files) (first end : ℕ) → IsChangedInRange Log first end files new → without_log new ≡ without_log files
 unlogged_changed files new first end changed = ap without_log changed.others
+
+-- what a crash leaves in a stage: of the files, and of the log behind the transaction
+abbrev pub StageLeaves : {D : Type 0} → disk.Ghosts D → Layers → D → D → Type 0
+StageLeaves g held old new = CrashLeavesOnly g old new (BeforeOrAfter (without_log (g.files old)) (without_log (with_held held (g.files old))))
+    × CrashLeavesOnly g old new (λ (image : Files). KeepsBehind (needed_units held) (g.files old).log image.log)
 
 module _ {D : Type 0} (g : disk.Ghosts D) (held : Layers) (files : Files) where
   abbrev BOA : Files → Type 0

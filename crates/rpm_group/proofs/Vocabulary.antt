@@ -2,7 +2,7 @@
 pub use Rattle.rpm_group.specs.Counts.{is_held, log_units}
 unfoldable pub use Rattle.rpm_group.specs.Counts.{begins_run, count_below}
 pub use Rattle.rpm_group.specs.Transactions.{BeforeOrAfter, KeepsBehind, longest_log, needed_units, runs_of, units_of_log}
-pub use Rattle.rpm_group.specs.Held.{IsHeldBelow, in_page, in_paged, Leaf, page_at, page_in, Table, unit_in, unit_over}
+pub use Rattle.rpm_group.specs.Held.{IsHeldBelow, in_marked, in_page, in_paged, is_marked, Leaf, page_at, page_in, Table, unit_in, unit_over}
 unfoldable pub use Rattle.rpm_group.specs.Held.{held_at, laid_units}
 pub use Rattle.rpm_group.specs.Layers.{file_of-laid, laid_file, laid_files, pages_of}
 pub use Rattle.rpm_group.specs.Loads.{IsSound}

@@ -1,6 +1,6 @@
 -- What is held of a file.
 use Rattle.std.specs.Prelude.{◌≡◌, ℕ, ◌*◌, ◌/◌, ◌%◌, ◌≤◌, List, [], Vec, take, drop, length, Option, Some, None}
-use Rattle.std.specs.Prelude.{slice_index_or, if◌then◌else◌, false, Box, unwrap_or, map, max}
+use Rattle.std.specs.Prelude.{slice_index_or, if◌then◌else◌, Bool, false, Box, unwrap_or, map, max, nat_lt}
 use Rattle.std.specs.List.{range_with_len}
 use Rattle.rpm_outside.specs.Files.{Units, unit_at}
 use Rattle.std.specs.declared.alloc.Global.{Global}
@@ -10,9 +10,18 @@ use Rattle.rpm_group.specs.declared.page.Page.{Page}
 abbrev pub unit_in : List ℕ → ℕ → List ℕ
 unit_in bytes k = take 16 (drop (16 * k) bytes)
 
+-- whether unit k is held by these marks: each unit of a page without marks is
+abbrev pub is_marked : Option (Box (List Bool) Global) → ℕ → Bool
+is_marked None k = nat_lt k 256
+is_marked (Some marks) k = slice_index_or marks.value k false
+
+-- unit k of these bytes, where it is marked
+abbrev pub in_marked : List Bool → List ℕ → ℕ → Option (List ℕ)
+in_marked marks bytes k = if slice_index_or marks k false then Some (unit_in bytes k) else None
+
 -- unit k of a page, where it is held
 abbrev pub in_page : Page → ℕ → Option (List ℕ)
-in_page page k = if slice_index_or page.marks k false then Some (unit_in page.bytes k) else None
+in_page page k = if is_marked page.marks k then Some (unit_in page.bytes k) else None
 
 -- 256 pages by number, of which some are there
 abbrev pub Leaf : Type 0

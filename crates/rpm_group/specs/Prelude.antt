@@ -5,7 +5,7 @@ pub use Rattle.rpm_group.specs.Counts.{IsNextPlace, begins_run, count_below, is_
 pub use Rattle.rpm_group.specs.Frame.{OnlyReadsLog, OnlyReadsLogOr, ReadsLog, ReadsNothing, Unwritten}
 pub use Rattle.rpm_group.specs.Transactions.{BeforeOrAfter, KeepsBehind, held_units, needed_units, runs_of}
 pub use Rattle.rpm_group.specs.Transactions.{units_of_log}
-pub use Rattle.rpm_group.specs.Held.{held_at, in_page, laid_units, page_at, page_in, unit_in}
+pub use Rattle.rpm_group.specs.Held.{held_at, in_marked, in_page, is_marked, laid_units, page_at, page_in, unit_in}
 pub use Rattle.rpm_group.specs.Layers.{laid_files, pages_of}
 pub use Rattle.rpm_group.specs.Loaded.{IsDiskFault, IsLoaded, LoadedSays, disk_after}
 pub use Rattle.rpm_group.specs.Loads.{IsOutsideLog, LoadSays}

@@ -28,7 +28,7 @@ pub fn add(alloc: Global, leaf: &mut Leaf, k: usize) -> Result<(), AllocError>
 {
     lengthen(leaf, k + 1)?;
     if leaf[k].is_none() {
-        leaf[k] = Some(Box::new(alloc, empty_page())?);
+        leaf[k] = Some(Box::new(alloc, empty_page(alloc)?)?);
     }
     Ok(())
 }

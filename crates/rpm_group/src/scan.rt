@@ -3,7 +3,6 @@
 ghost use Rattle.std.specs.Prelude.{◌≡◌, ℕ, ◌+◌, ◌-◌, ◌*◌, ◌/◌, ◌%◌, ◌<◌, ◌≤◌, ◌^◌, false, not, None};
 ghost use Rattle.rpm_group.specs.Prelude.{begins_run, count_below, is_held, IsNextPlace};
 
-use crate::page::next_mark;
 use crate::table::{Table, absent, page_of};
 
 /// The first of these units of one page that is held or isn't, or the end.
@@ -17,7 +16,7 @@ fn next_in(table: &Table, q: usize, from: usize, end: usize, held: bool) -> usiz
     ensures found { result < end → is_held table.now.items (256 * q + result) ≡ held }
 {
     match page_of(table, q) {
-        Some(page) => next_mark(&page.marks, from, end, held),
+        Some(page) => page.next(from, end, held),
         None => { if held { end } else { from } }
     }
 }

@@ -1,15 +1,11 @@
-use Rattle.std.proofs.Common.{◌≡◌, ◌≤◌, ◌++◌, ℕ, sym, ap, subst, ◌∙◌, arith}
-use Rattle.rpm_group.proofs.Vocabulary.{changed_leaves_more, changed_more, changed_then, IsChangedInRange, EntriesIn, Files, HeadsEndInZeros, Log, needed_units}
-use Rattle.rpm_group.proofs.Vocabulary.{sync_leaves, WasChanged}
+use Rattle.std.proofs.Common.{◌≡◌, ◌++◌, IsTrue, sym, ap, subst, ◌∙◌, arith}
+use Rattle.rpm_group.proofs.Vocabulary.{changed_leaves_more, changed_more, changed_then, CrashChanges, EntriesIn, Files, HeadsEndInZeros, IsChangedInRange, Log}
+use Rattle.rpm_group.proofs.Vocabulary.{needed_units}
+use Rattle.rpm_group.proofs.Closes.{synced_leaves}
 use Rattle.rpm_group.proofs.Committing.{transaction_of, tail_of, heads_of, log_leaves, log_durable}
+use Rattle.rpm_group.proofs.commit.log_held.Given.{Over}
+use Rattle.rpm_group.proofs.commit.log_held.Goals.{After-log_runs-2}
 use Rattle.rpm_group.proofs.commit.log_held.Goals as goal
-
--- both runs of writes
-both_changed : (middle one_end two_end end : ℕ) (a b c : Files) → 1 ≤ middle → one_end ≤ end → two_end ≤ end → IsChangedInRange Log 1 one_end a b
-    → IsChangedInRange Log middle two_end b c → IsChangedInRange Log 1 end a c
-both_changed middle one_end two_end end a b c low one_high two_high one two =
-    changed_then Log 1 end a b c (changed_more Log 1 one_end 1 end a b (omega arith) one_high one)
-    (changed_more Log middle two_end 1 end b c low two_high two)
 
 pub returns-in_err-middle-clause-images : goal.returns-in_err-middle-clause-images
 returns-in_err-middle-clause-images g c = λ told.
@@ -23,12 +19,15 @@ returns-clause-changed g c = λ told.
     let first : Files = D.files c.log_runs.new.disk in
     let last : Files = D.files c.log_runs-2.new.disk in
     let end = needed_units c.args.held.now in
-    subst (λ (f : Files). IsChangedInRange Log 1 end old f) (sym (c.sync.ensures.same told))
-    (both_changed c.in_ok-middle.middle.at _ _ end old first last (omega (arith, c.in_ok-middle.ensures.at)) (omega arith)
-    (omega (arith, c.in_ok-middle.ensures.at)) (c.in_ok-middle.ensures.changed told) (c.in_ok-tail.ensures.changed told))
+    subst (λ (f : Files). IsChangedInRange Log 1 end old f) (sym (c.sync.ensures.same told)) (changed_then Log 1 end old first last
+    (changed_more Log 1 _ 1 end old first (omega arith) (omega arith) (c.in_ok-middle.ensures.changed told))
+    (changed_more Log c.in_ok-middle.middle.at _ 1 end first last (omega (arith, c.in_ok-middle.ensures.at))
+    (omega (arith, c.in_ok-middle.ensures.at)) (c.in_ok-tail.ensures.changed told)))
 
-pub returns-in_err-tail-clause-images : goal.returns-in_err-tail-clause-images
-returns-in_err-tail-clause-images g c = λ told.
+-- both runs of writes
+runs_change : (g : Over) (c : After-log_runs-2 g) → IsTrue g.D.Disk.tells
+    → CrashChanges g.D.Disk Log 1 (needed_units c.args.held.now) c.args.disk.now c.log_runs-2.new.disk
+runs_change g c told =
     let D = g.D.Disk in
     let old = c.args.disk.now in
     let mid = c.log_runs.new.disk in
@@ -37,35 +36,18 @@ returns-in_err-tail-clause-images g c = λ told.
     (λ image left. g.met.D.Disk.earlier mid (D.moment old) (D.moment mid) image told c.log_runs.ensures.reads.nothing.later (omega arith) left)
     (c.log_runs.ensures.images told) (c.log_runs-2.ensures.images told)
 
+pub returns-in_err-tail-clause-images : goal.returns-in_err-tail-clause-images
+returns-in_err-tail-clause-images g c = runs_change g (goal.at.returns-in_err-tail-clause-images g c).After-log_runs-2
+
 pub returns-in_err-sync-clause-images : goal.returns-in_err-sync-clause-images
 returns-in_err-sync-clause-images g c = λ told.
-    let D = g.D.Disk in
-    let old = c.args.disk.now in
-    let mid = c.log_runs.new.disk in
-    let last = c.log_runs-2.new.disk in
-    sync_leaves D old last c.sync.new.self (WasChanged Log 1 (needed_units c.args.held.now) (D.left_since old (D.moment old)))
-    (log_leaves D _ c.in_ok-middle.middle.at _ (needed_units c.args.held.now) old mid last (omega (arith, c.in_ok-middle.ensures.at))
-    (omega arith) (omega (arith, c.in_ok-middle.ensures.at))
-    (λ image left. g.met.D.Disk.earlier mid (D.moment old) (D.moment mid) image told c.log_runs.ensures.reads.nothing.later (omega arith) left)
-    (c.log_runs.ensures.images told) (c.log_runs-2.ensures.images told))
+    synced_leaves g.D.Disk told g.met.D.Disk.earlier _ _ _ _ (runs_change g (goal.at.returns-in_err-sync-clause-images g c).After-log_runs-2 told)
     (c.sync.ensures.time told) (c.sync.ensures.images told)
-    (λ image left. g.met.D.Disk.earlier last (D.moment old) (D.moment last) image told
-    (omega (arith, c.log_runs.ensures.reads.nothing.later, c.log_runs-2.ensures.reads.nothing.later)) (omega arith) left)
 
 pub returns-clause-images : goal.returns-clause-images
 returns-clause-images g c = λ told.
-    let D = g.D.Disk in
-    let old = c.args.disk.now in
-    let mid = c.log_runs.new.disk in
-    let last = c.log_runs-2.new.disk in
-    sync_leaves D old last c.sync.new.self (WasChanged Log 1 (needed_units c.args.held.now) (D.left_since old (D.moment old)))
-    (log_leaves D _ c.in_ok-middle.middle.at _ (needed_units c.args.held.now) old mid last (omega (arith, c.in_ok-middle.ensures.at))
-    (omega arith) (omega (arith, c.in_ok-middle.ensures.at))
-    (λ image left. g.met.D.Disk.earlier mid (D.moment old) (D.moment mid) image told c.log_runs.ensures.reads.nothing.later (omega arith) left)
-    (c.log_runs.ensures.images told) (c.log_runs-2.ensures.images told))
+    synced_leaves g.D.Disk told g.met.D.Disk.earlier _ _ _ _ (runs_change g (goal.at.returns-clause-images g c).After-log_runs-2 told)
     (c.sync.ensures.time told) (c.sync.ensures.images told)
-    (λ image left. g.met.D.Disk.earlier last (D.moment old) (D.moment last) image told
-    (omega (arith, c.log_runs.ensures.reads.nothing.later, c.log_runs-2.ensures.reads.nothing.later)) (omega arith) left)
 
 pub returns-clause-logged : goal.returns-clause-logged
 returns-clause-logged g c = λ told.
@@ -93,14 +75,8 @@ returns-clause-durable g c = λ told.
     let D = g.D.Disk in
     let old = c.args.disk.now in
     let new = c.sync.new.self in
-    let first : Files = D.files c.log_runs.new.disk in
-    let last : Files = D.files c.log_runs-2.new.disk in
-    let same : last ≡ D.files new = sym (c.sync.ensures.same told) in
-    let end = needed_units c.args.held.now in
-    let changed : IsChangedInRange Log 1 end (D.files old) (D.files new) = subst (λ (f : Files). IsChangedInRange Log 1 end (D.files old) f) same
-    (both_changed c.in_ok-middle.middle.at _ _ end (D.files old) first last (omega (arith, c.in_ok-middle.ensures.at)) (omega arith)
-    (omega (arith, c.in_ok-middle.ensures.at)) (c.in_ok-middle.ensures.changed told) (c.in_ok-tail.ensures.changed told)) in
-    log_durable D end old new (D.files old) (D.files new) (c.requires.durable told) changed (returns-clause-images g c told)
+    log_durable D (needed_units c.args.held.now) old new (D.files old) (D.files new) (c.requires.durable told) (returns-clause-changed g c told)
+    (returns-clause-images g c told)
     (λ image left. g.met.D.Disk.earlier new (D.moment old) (D.moment new) image told
     (omega (arith, c.log_runs.ensures.reads.nothing.later, c.log_runs-2.ensures.reads.nothing.later, c.sync.ensures.later)) (omega arith) left)
-    (λ image left. c.in_ok-sync.ensures.durable told image left ∙ ap (λ (f : Files). f.log) same)
+    (λ image left. c.in_ok-sync.ensures.durable told image left ∙ ap (λ (f : Files). f.log) (sym (c.sync.ensures.same told)))

@@ -1,7 +1,7 @@
 use Rattle.std.proofs.Common.{◌≡◌, inl, inr, ℕ, ◌-◌, ◌<◌, [], refl, sym, ap, subst, ◌∙◌, arith}
 use Rattle.std.proofs.lemmas.Bool.{cases_lt}
-use Rattle.rpm_group.proofs.Vocabulary.{IsHeldBelow, Files, held_at, KeepsBehind, laid_units, laid_file, log_units, needed_units, Pages, started, Units}
-use Rattle.rpm_group.proofs.Behinds.{keeps_none}
+use Rattle.rpm_group.proofs.Vocabulary.{IsHeldBelow, Files, held_at, laid_units, laid_file, log_units, needed_units, Pages, Units}
+use Rattle.rpm_group.proofs.Behinds.{none_behind}
 use Rattle.rpm_group.proofs.Countings.{nothing_held}
 use Rattle.rpm_group.proofs.LoggedLaws.{unheld_is}
 use Rattle.rpm_group.proofs.Laids.{laid_none}
@@ -55,14 +55,10 @@ pub returns-then-units-eq0-clause-behind : goal.returns-then-units-eq0-clause-be
 returns-then-units-eq0-clause-behind g c = λ told.
     let D = g.D.Disk in
     let old = c.args.disk.now in
-    started D old (λ image. KeepsBehind (needed_units c.args.held.now) (D.files old).log image.log)
-    (λ image left. subst (λ (f : Files). KeepsBehind (needed_units c.args.held.now) (D.files old).log f.log) (sym (c.requires.durable told image left))
-    (keeps_none (needed_units c.args.held.now) (D.files old).log))
+    none_behind D told g.met.D.Disk.earlier (needed_units c.args.held.now) (D.files old).log old (D.files old) refl (c.requires.durable told)
 
 pub returns-then-units-ge-MOST-clause-behind : goal.returns-then-units-ge-MOST-clause-behind
 returns-then-units-ge-MOST-clause-behind g c = λ told.
     let D = g.D.Disk in
     let old = c.args.disk.now in
-    started D old (λ image. KeepsBehind (needed_units c.args.held.now) (D.files old).log image.log)
-    (λ image left. subst (λ (f : Files). KeepsBehind (needed_units c.args.held.now) (D.files old).log f.log) (sym (c.requires.durable told image left))
-    (keeps_none (needed_units c.args.held.now) (D.files old).log))
+    none_behind D told g.met.D.Disk.earlier (needed_units c.args.held.now) (D.files old).log old (D.files old) refl (c.requires.durable told)

@@ -1,9 +1,8 @@
-use Rattle.std.proofs.Common.{◌≡◌, inl, inr, ℕ, false, replicate, get_or, None, ap}
-use Rattle.std.specs.Prelude.{if◌then◌else◌, Bool, Some}
+use Rattle.std.proofs.Common.{◌≡◌, inl, inr, ℕ, false, replicate, get_or, ap, ◌∙◌, arith}
 use Rattle.std.proofs.lemmas.List.{get_or-replicate, get_or_past, length-replicate}
 use Rattle.std.proofs.lemmas.Bool.{cases_lt}
-use Rattle.std.proofs.Common.{arith}
 use Rattle.rpm_group.proofs.Vocabulary.{unit_in}
+use Rattle.rpm_group.proofs.ByteLaws.{unmarked}
 use Rattle.rpm_group.proofs.page.empty_page.Goals as goal
 
 no_mark : (n k : ℕ) → get_or (replicate n false) k false ≡ false
@@ -13,4 +12,6 @@ no_mark n k = elim (cases_lt k n) [
 ]
 
 pub returns : goal.returns
-returns c = λ k. ap (λ (b : Bool). if b then Some (unit_in (replicate 4096 0) k) else None) (no_mark 256 k)
+returns c = λ k.
+    let marks = c.in_ok-new.field-0.value in
+    unmarked (get_or marks k false) (unit_in (replicate 4096 0) k) (ap (λ ms. get_or ms k false) c.in_ok-new.ensures.ok ∙ no_mark 256 k)
