@@ -24,6 +24,7 @@ pub mod Ends
 pub mod Adding
 pub mod Adds
 pub mod Padding
+pub mod BucketWords
 pub mod Drafting
 pub mod Imaging
 pub mod Scratch

@@ -93,18 +93,17 @@ pub left_next : (pieces : List (List Row)) (rows : List Row) → left_rows (piec
 left_next pieces rows = ap (flat_map id) (reverse-append pieces (rows ∷ [])) ∙ flat_map-cons id rows (reverse pieces)
 
 -- the rows of which the records are made, before those that are left
-pub record AddsPieces (all : List Row) (old_heads old_bytes heads bytes : List ℕ) (left : List (List Row)) : Type 0 where
+pub record AddsPieces (all : List Row) (buckets : ℕ) (old_bytes bytes : List ℕ) (left : List (List Row)) : Type 0 where
   pub done : List Row
   pub split : done ++ left_rows left ≡ all
-  pub heads' : length heads ≡ length old_heads
   pub long : length bytes ≡ length old_bytes + 16 * live_of done
-  pub so_far : IsDraft [] old_heads old_bytes → IsDraft done heads bytes
+  pub so_far : IsDraft [] buckets old_bytes → IsDraft done buckets bytes
 
-pub adds_none : (heads bytes : List ℕ) (left : List (List Row)) → AddsPieces (left_rows left) heads bytes heads bytes left
+pub adds_none : (buckets : ℕ) (bytes : List ℕ) (left : List (List Row)) → AddsPieces (left_rows left) buckets bytes bytes left
 unfolding live_of
-adds_none heads bytes left = record { done = []; split = refl; heads' = refl; long = omega arith; so_far = λ d. d }
+adds_none buckets bytes left = record { done = []; split = refl; long = omega arith; so_far = λ d. d }
 
-module _ (all : List Row) (old_heads old_bytes heads bytes : List ℕ) (left : List (List Row)) (adds : AddsPieces all old_heads old_bytes heads bytes left) where
+module _ (all : List Row) (buckets : ℕ) (old_bytes bytes : List ℕ) (left : List (List Row)) (adds : AddsPieces all buckets old_bytes bytes left) where
   -- how many units the records that are made and those that are left have
   pub adds_size : live_of adds.done + live_of (left_rows left) ≡ live_of all
   adds_size = sym (live-append adds.done (left_rows left)) ∙ ap live_of adds.split
@@ -120,14 +119,13 @@ module _ (all : List Row) (old_heads old_bytes heads bytes : List ℕ) (left : L
           live-append rows (left_rows before),
         )
 
-    pub adds_next : (new_heads new_bytes : List ℕ) → length new_heads ≡ length heads → length new_bytes ≡ length bytes + 16 * live_of rows
-        → ((so : List Row) → IsDraft so heads bytes → IsDraft (so ++ rows) new_heads new_bytes)
-        → AddsPieces all old_heads old_bytes new_heads new_bytes before
-    adds_next new_heads new_bytes many long more = record {
+    pub adds_next : (new_bytes : List ℕ) → length new_bytes ≡ length bytes + 16 * live_of rows
+        → ((so : List Row) → IsDraft so buckets bytes → IsDraft (so ++ rows) buckets new_bytes)
+        → AddsPieces all buckets old_bytes new_bytes before
+    adds_next new_bytes long more = record {
       done = adds.done ++ rows;
       split = append_assoc adds.done rows (left_rows before)
           ∙ ap (λ (rs : List Row). adds.done ++ rs) (sym (ap left_rows is ∙ left_next before rows)) ∙ adds.split;
-      heads' = many ∙ adds.heads';
       long = omega (arith, long, adds.long, live-append adds.done rows);
       so_far = λ d. more adds.done (adds.so_far d);
     }

@@ -49,7 +49,7 @@ pub use Rattle.rpm_hindex.specs.inner.Drafts.{draft_index, HasDraftUnits, IsDraf
 pub use Rattle.rpm_hindex.specs.inner.Making.{key_padding}
 unfoldable pub use Rattle.rpm_hindex.specs.inner.Making.{record_of}
 pub use Rattle.rpm_hindex.specs.inner.Ongoing.{IsDropFault}
-pub use Rattle.rpm_hindex.specs.inner.Packed.{AreKeysPacked, ArePieces, rows_in_pieces, left_rows, no_head, row_in, packed_rows}
+pub use Rattle.rpm_hindex.specs.inner.Packed.{AreKeysPacked, ArePieces, rows_in_pieces, left_rows, head_kind, head_length, no_head, row_in, packed_rows}
 pub use Rattle.rpm_hindex.specs.inner.Records.{HasBuckets}
 pub use Rattle.rpm_hindex.proofs.laws.RowLaws.{live-append, once, same_is, times-append, times-cons, times_none, times_one, without}
 pub use Rattle.rpm_hindex.specs.inner.Spots.{HasNone, IsRecordAhead, IsRowFound, IsFoundFrom, IsFront, IsRecordHead, IsHeadWithin, IsLastPlace}

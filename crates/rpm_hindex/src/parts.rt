@@ -41,7 +41,7 @@ pub fn write_synced<D: Disk>(disk: &mut D, unit: u64, bytes: &[u8]) -> Result<()
 }
 
 // How many bytes of an image go out in one write.
-const PART: usize = 1_048_576;
+const PART: usize = 65_536;
 
 /// Writes the units of an image from this byte on, and frees them.
 fn write_end<D: Disk>(disk: &mut D, bytes: &mut Vec<u8>, keep: usize) -> Result<(), IndexDiskFault>

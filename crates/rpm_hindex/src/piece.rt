@@ -2,19 +2,36 @@
 
 ghost use Rattle.std.specs.Prelude.{◌≡◌, ◌≤◌, ◌<◌, ◌^◌, ◌++◌, ◌∷◌, [], length, reverse, IfOk, OnOk, OnErr};
 ghost use Rattle.rpm_hindex.specs.Prelude.{live_of, Row, row_nth};
+ghost use Rattle.rpm_hindex.specs.inner.Packed.{head_kind, head_length};
 
 use crate::records::record_units;
+use crate::rows::RowHead;
 use std::alloc::{AllocError, Global};
 use std::marker::Model;
 
-/// A row, whose key stands among the keys of all rows.
+/// A row in 16 bytes, whose key stands among the keys of all rows. Its kind and the length of its key are one word, as in a record.
 #[derive(Clone, Copy)]
 pub struct PackedHead {
-    pub kind: u8,
-    pub start: u64,
-    pub length: u32,
+    pub start: u32,
+    pub kind_and_length: u32,
     pub number: u32,
     pub place: u32,
+}
+
+impl PackedHead {
+    fn kind(self) -> u8
+        ensures kind { result ≡ head_kind self }
+        ensures within { result < 16 }
+    {
+        (self.kind_and_length / 268_435_456) as u8
+    }
+
+    /// How many bytes its key has.
+    fn length(self) -> u32
+        ensures { result ≡ head_length self }
+    {
+        self.kind_and_length % 268_435_456
+    }
 }
 
 /// A row that is to be dropped or added.
@@ -72,7 +89,7 @@ impl Piece {
         })
     }
 
-    /// Adds a row of any kind, as a record may have it.
+    /// Adds a row of any kind, as a record may have it. `AllocError` where there is no memory, or the keys would have 4 GiB.
     pub fn add(&mut self, kind: u8, key: &[u8], number: u32, place: u32) -> Result<(), AllocError>
         requires kind { kind ≤ 15 }
         requires key { length key.now < 268435456 }
@@ -81,16 +98,15 @@ impl Piece {
     {
         let length = key.len() as u32;
         let units = record_units(length) as u64;
-        if self.live > MOST - units {
+        let start = self.keys.len();
+        if self.live > MOST - units || start > (u32::MAX - length) as usize {
             return Err(AllocError);
         }
-        let start = self.keys.len() as u64;
         self.heads.reserve(1)?;
         self.keys.extend_from_slice(key)?;
         self.heads.push(PackedHead {
-            kind,
-            start,
-            length,
+            start: start as u32,
+            kind_and_length: kind as u32 * 268_435_456 + length,
             number,
             place,
         })?;
@@ -122,7 +138,7 @@ impl Piece {
     }
 
     /// Row i without its key.
-    fn head(&self, i: usize) -> PackedHead
+    fn head(&self, i: usize) -> RowHead
         requires { i < length self.now }
         ensures kind { result.kind ≡ (row_nth self.now i).kind }
         ensures number { result.number ≡ (row_nth self.now i).number }
@@ -131,7 +147,13 @@ impl Piece {
         ensures kinds { result.kind < 16 }
         ensures short { result.length < 2 ^ 28 }
     {
-        self.heads[i]
+        let head = self.heads[i];
+        RowHead {
+            kind: head.kind(),
+            length: head.length(),
+            number: head.number,
+            place: head.place,
+        }
     }
 
     /// The key of row i.
@@ -141,7 +163,7 @@ impl Piece {
     {
         let head = self.heads[i];
         let start = head.start as usize;
-        &self.keys[start..start + head.length as usize]
+        &self.keys[start..start + head.length() as usize]
     }
 }
 

@@ -100,7 +100,7 @@ impl Hindex {
     /// - `IndexFull` where the rows after the change, made from scratch, need more than 268435456 units, and of a
     ///   well-formed file only there: `needed` of them.
     /// - `DiskFault` only where the disk's count of faults rose.
-    /// - `NoMemory` where the change finds no memory.
+    /// - `NoMemory` where the change finds no memory, or the keys of the rows after it have 4 GiB.
     pub fn prepare_owned<D: Disk>(
         &self,
         alloc: Global,

@@ -1,10 +1,10 @@
 //! Records: their sizes, their buckets, and those that are to be written.
 
-ghost use Rattle.std.specs.Prelude.{◌≡◌, ◌%◌, ◌^◌, ◌≤◌, ◌<◌, ◌++◌, length, take, OnOk, OnErr};
-ghost use Rattle.rpm_hindex.specs.Prelude.{bucket_count, bytes_of, bytes_of_word, fnv, hash_of, index_units, is_bucket_count, key_padding, record_of, record_units};
+ghost use Rattle.std.specs.Prelude.{◌≡◌, ◌%◌, ◌^◌, ◌≤◌, ◌<◌, ◌++◌, length, take, OnOk};
+ghost use Rattle.rpm_hindex.specs.Prelude.{bucket_count, bytes_of, fnv, hash_of, index_units, is_bucket_count, key_padding, record_of, record_units};
 
 use crate::piece::RowRef;
-use rpm_outside::{bytes_of_word, unit_of_words};
+use rpm_outside::unit_of_words;
 use std::alloc::AllocError;
 
 /// The most units that an index has: 4 GiB.
@@ -73,14 +73,6 @@ pub fn bucket_of(kind: u8, key: &[u8], buckets: u32) -> u32
     ensures within { result < buckets }
 {
     fnv(fnv(2_166_136_261, &[kind]), key) % buckets
-}
-
-/// Adds a number as four bytes, or nothing.
-pub fn push_word(bytes: &mut Vec<u8>, n: u32) -> Result<(), AllocError>
-    ensures ok { OnOk result (bytes.new.items ≡ bytes.old.items ++ bytes_of_word n) }
-    ensures err { OnErr result (bytes.new.items ≡ bytes.old.items) }
-{
-    bytes.extend_from_slice(&bytes_of_word(n))
 }
 
 /// The first unit of these bytes.

@@ -22,8 +22,9 @@ pub struct RowHead {
 /// How many rows a piece has that is full. Its memory is then of a size that goes back to the system when it is freed.
 const FULL: usize = 16_384;
 
-/// Rows in the order in which they were pushed. Contracts see the list. A row takes 24 bytes of memory and its key.
-/// They stand in pieces, so that who takes them by value frees those that it is done with.
+/// Rows in the order in which they were pushed. Contracts see the list. A row takes 16 bytes of memory and its key.
+/// They stand in pieces, so that who takes them by value frees those that it is done with. The keys of a piece have
+/// less than 4 GiB.
 #[derive(Drop)]
 pub struct Rows {
     alloc: Global,
@@ -94,7 +95,7 @@ impl Rows {
     ///
     /// # Errors
     ///
-    /// `AllocError` where there is no memory; the rows are then as they were.
+    /// `AllocError` where there is no memory, or the keys of 16384 rows would have 4 GiB; the rows are then as they were.
     pub fn push(&mut self, kind: u8, key: &[u8], number: u32, place: u32) -> Result<(), AllocError>
         requires some { 1 ≤ kind }
         requires kind { kind ≤ 15 }

@@ -108,9 +108,9 @@ impl Hindex {
     /// Makes the first unit zeros, writes an index of these rows from scratch, and makes the file durable. The index isn't
     /// sealed then. No unit of it is dead: it has as many as `index_units` says.
     ///
-    /// Reads nothing. All memory is taken before the first write: that of the records, and 8 bytes a bucket. The rows
+    /// Reads nothing. All memory is taken before the first write: that of the image, with its 4 bytes a bucket. The rows
     /// are freed as their records are made, and the records as they are written, so that little more than one of the
-    /// two is held at any moment. Records go out in writes of 1 MiB, the last first, and the time is linear in the rows.
+    /// two is held at any moment. Records go out in writes of 64 KiB, the last first, and the time is linear in the rows.
     ///
     /// # Errors
     ///
@@ -216,7 +216,7 @@ impl Hindex {
     /// Writes a change, and makes the file durable. The index isn't sealed then. Takes no memory and reads nothing.
     ///
     /// In place, all new records are one write, and then each unit that changes is one. From scratch, records go out in
-    /// writes of 1 MiB, the last first, and each is freed when it is written.
+    /// writes of 64 KiB, the last first, and each is freed when it is written.
     ///
     /// # Errors
     ///

@@ -1,5 +1,5 @@
 -- An index that is being made in memory.
-use Rattle.std.specs.Prelude.{◌≡◌, ℕ, ◌+◌, ◌-◌, ◌/◌, ◌%◌, ◌<◌, ◌≤◌, List, length, slice_index}
+use Rattle.std.specs.Prelude.{◌≡◌, ℕ, ◌+◌, ◌-◌, ◌/◌, ◌%◌, ◌<◌, ◌≤◌, List, length}
 use Rattle.rpm_outside.specs.Files.{Units, units_of, unit_at}
 use Rattle.rpm_outside.specs.Words.{word}
 use Rattle.rpm_hindex.specs.Rows.{Row, SameRows}
@@ -8,22 +8,22 @@ use Rattle.rpm_hindex.specs.Index.{Index, index_in, rows_of, records}
 use Rattle.rpm_hindex.specs.Padding.{ArePadded}
 use Rattle.rpm_hindex.specs.Whole.{IsWhole, IsWellFormed}
 
--- the index of these bucket words, whose units begin with unit 1
-abbrev pub draft_index : List ℕ → List ℕ → Index
-draft_index heads bytes = record {
-  buckets = length heads;
+-- the index of these bytes, which begin with unit 1; the words of its buckets stand behind that unit
+abbrev pub draft_index : ℕ → List ℕ → Index
+draft_index buckets bytes = record {
+  buckets = buckets;
   used = 1 + length bytes / 16;
-  head = λ bucket. slice_index heads bucket;
+  head = λ bucket. word (4 + bucket) bytes;
   unit = λ i. unit_at (units_of bytes) (i - 1);
 }
 
 -- a draft has these rows
-pub record IsDraft (rows : List Row) (heads bytes : List ℕ) : Type 0 where
+pub record IsDraft (rows : List Row) (buckets : ℕ) (bytes : List ℕ) : Type 0 where
   pub whole_units : length bytes % 16 ≡ 0
-  pub front : first_record (length heads) ≤ 1 + length bytes / 16
-  pub whole : IsWhole (length rows) (live_of rows) (draft_index heads bytes)
-  pub same : SameRows rows (rows_of (draft_index heads bytes))
-  pub padded : ArePadded (draft_index heads bytes)
+  pub front : first_record buckets ≤ 1 + length bytes / 16
+  pub whole : IsWhole (length rows) (live_of rows) (draft_index buckets bytes)
+  pub same : SameRows rows (rows_of (draft_index buckets bytes))
+  pub padded : ArePadded (draft_index buckets bytes)
 
 -- the file has these units from unit 1 on
 abbrev pub HasDraftUnits : Units → Units → Type 0

@@ -17,6 +17,9 @@ add_pieces-requires-clause-room c =
     let p = c.into_pieces-full.result in
     omega (arith, c.requires.room, sizes p.0.items c.reverse.new.self.items p.1 c.args.rows c.reverse.ensures.items c.into_pieces-full.ensures)
 
+pub add_records-requires-clause-front : goal.add_records-requires-clause-front
+add_records-requires-clause-front c = omega (arith, c.requires.front, c.in_ok-add_pieces.ensures.long)
+
 pub add_records-requires-clause-room : goal.add_records-requires-clause-room
 add_records-requires-clause-room c =
     let p = c.into_pieces-full.result in
@@ -42,7 +45,7 @@ pub returns-clause-rows : goal.returns-clause-rows
 returns-clause-rows c =
     let p = c.into_pieces-full.result in
     let turned = c.reverse.new.self.items in
-    let draft = c.add_records.new.draft in
-    on_ok c.add_records.result _ _ (λ more d. subst (λ (rs : List Row). IsDraft rs draft.heads.items draft.bytes.items)
+    let bytes = c.add_records.new.bytes.items in
+    on_ok c.add_records.result _ _ (λ more d. subst (λ (rs : List Row). IsDraft rs c.args.buckets bytes)
     (parts p.0.items turned p.1 c.args.rows c.reverse.ensures.items c.into_pieces-full.ensures)
     (more (left_rows turned) (c.in_ok-add_pieces.ensures.rows d))) c.add_records.ensures.rows
