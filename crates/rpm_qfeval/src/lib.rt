@@ -18,7 +18,6 @@ mod lookup;
 mod measure;
 mod modes;
 mod pieces;
-mod plain_paths;
 mod plain_texts;
 mod printing;
 mod ready;

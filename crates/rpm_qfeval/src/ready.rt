@@ -4,14 +4,13 @@ ghost use Rattle.std.specs.Prelude.{◌≡◌, [], map, decimal, slice_get};
 ghost use Rattle.rpm_qfeval.specs.Prelude.{AreFiles, option_copied, or_none, StandReady, StandsReady, Writes};
 ghost use Rattle.rpm_qfparse.specs.declared.tree.Part.TheVariants as part;
 
-use crate::plain_paths::PlainPaths;
 use crate::plain_texts::PlainTexts;
 use arrayvec::ArrayVec;
 use itoa::Buffer as Decimal;
 use rpm_header::View;
 use rpm_outside::{Failed, Sink, put_all};
 use rpm_qfparse::{Part, Parts, Role, Show, Tag, TagPart};
-use rpm_tags::{Files, Numbers, numbers_in, texts_in, value};
+use rpm_tags::{FileIter, Files, Numbers, TextIter, Texts, numbers_in, texts_in, value};
 
 /// What stands ready of a part of a bracket: what it prints as it is, of which each round has the one
 /// at its place; `(none)` of a tag that the header doesn't have; nothing of any other part.
@@ -20,9 +19,9 @@ pub enum Ready<'v, 'a> {
     #[default]
     Other,
     Missing,
-    Texts(PlainTexts<'a>),
+    Texts(PlainTexts<Texts<'a>, TextIter<'a>>),
     Numbers(Numbers<'a>),
-    Paths(PlainPaths<'v, 'a>),
+    Paths(PlainTexts<&'v Files<'a>, FileIter<'v, 'a>>),
 }
 
 /// Whether something stands ready at a place.
@@ -56,7 +55,9 @@ fn ready_tag<'v, 'a>(
     }
     if let Tag::Stored(stored) = tag.tag {
         if let Some(texts) = texts_in(view, stored) {
-            return Ready::Texts(PlainTexts::new(texts));
+            let count = texts.count();
+            let left = texts.iter();
+            return Ready::Texts(PlainTexts::new(texts, count, left));
         }
         if let Some(numbers) = numbers_in(view, stored) {
             return Ready::Numbers(numbers);
@@ -64,7 +65,7 @@ fn ready_tag<'v, 'a>(
     }
     if let Tag::Filenames = tag.tag {
         if let Some(files) = files {
-            return Ready::Paths(PlainPaths::new(files));
+            return Ready::Paths(PlainTexts::new(files, files.count(), files.iter(None)));
         }
     }
     match value(view, number, tag.tag) {
