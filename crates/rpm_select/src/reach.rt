@@ -58,8 +58,8 @@ fn next_of(numbers: &[u32], n: u32, supposed: &mut usize) -> Option<u32>
 }
 
 impl Reach {
-    /// The least of them that is above this one. Of numbers that were listed, as many as are supposed passed are passed,
-    /// where the one before was asked for last.
+    /// The least of them that is above this one. `supposed` is how many of the listed numbers were passed when the one
+    /// before was found; any other value costs a search.
     pub fn next_above(&self, db: &Db, n: u32, supposed: &mut usize) -> Option<u32>
         requires { AreNumbersRising self.now }
         ensures { IsNext (reaches (reach_of self.now) db.now) n result }
