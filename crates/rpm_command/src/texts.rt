@@ -29,4 +29,4 @@ Pages: man rpm-q, man rpmdb
 ";
 
 /// The text of `--version`, which is the newest one of docs/CHANGELOG.md.
-pub(crate) const VERSION: &[u8] = b"juzkarg 1.6.0\n";
+pub(crate) const VERSION: &[u8] = b"juzkarg 1.7.0\n";
