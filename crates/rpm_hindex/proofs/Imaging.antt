@@ -21,7 +21,8 @@ unit_byte bytes k j lt small =
 word_of : (bytes : List ℕ) (b : ℕ) → 16 + 4 * b + 4 ≤ length bytes → length bytes % 16 ≡ 0 → word (b % 4) (unit_at (units_of bytes) (1 + b / 4)) ≡ word (4 + b) bytes
 word_of bytes b le whole = word_same (b % 4) (4 + b) (unit_at (units_of bytes) (1 + b / 4)) bytes (λ i lt.
     let at : 16 * (1 + b / 4) + (4 * (b % 4) + i) ≡ 4 * (4 + b) + i = omega arith in
-    unit_byte bytes (1 + b / 4) (4 * (b % 4) + i) (omega (arith, le, whole)) (omega (arith, lt)) ∙ ap (λ (k : ℕ). get_or bytes k 0) at)
+    unit_byte bytes (1 + b / 4) (4 * (b % 4) + i) (omega (arith, le, whole)) (omega (arith, lt))
+    ∙ ap (λ (k : ℕ). get_or bytes k 0) at)
 
 module _ (rows : List Row) (buckets : ℕ) (bytes second all : List ℕ)
     (count : is_bucket_count buckets ≡ true) (draft : IsDraft rows buckets bytes)

@@ -127,6 +127,11 @@ impl Piece {
         self.heads.len()
     }
 
+    /// How many bytes their keys have together.
+    pub fn key_bytes(&self) -> usize {
+        self.keys.len()
+    }
+
     /// The units that records of these rows have.
     pub fn live(&self) -> u64
         ensures live { result ≡ live_of self.now }

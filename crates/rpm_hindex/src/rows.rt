@@ -78,7 +78,8 @@ impl Rows {
         }
     }
 
-    /// Begins a new piece, where the last one is full.
+    /// Begins a new piece, where the last one is full. It has room for as many bytes of keys as that one has: growing
+    /// would leave holes in the memory that the pages of a transaction are taken from.
     fn turn_over(&mut self) -> Result<(), AllocError>
         ensures { self.new ≡ self.old }
     {
@@ -86,7 +87,8 @@ impl Rows {
             return Ok(());
         }
         self.full.reserve(1)?;
-        let full = mem::replace(&mut self.last, Piece::new(self.alloc));
+        let next = Piece::with_room(self.alloc, FULL, self.last.key_bytes())?;
+        let full = mem::replace(&mut self.last, next);
         self.full.push_reserved(full);
         Ok(())
     }

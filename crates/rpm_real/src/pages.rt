@@ -24,35 +24,34 @@ const TRIED: u32 = 512;
 /// How many of these may load a page: where each place of a file is read once, pages cost more than they spare.
 const LOADED: u32 = 480;
 
-/// A page: the unit with which it begins, how many bytes from there the file had, and the number of the frame that holds
-/// them.
+/// The page of a slot: the unit with which it begins, how many units from there the file had, and the number of the frame
+/// that holds them.
 #[derive(Clone, Copy)]
 struct Page {
     start: u64,
-    filled: usize,
-    frame: usize,
+    units: u32,
+    frame: u32,
 }
 
-/// Where a unit is: the slot of its page, the unit with which that page begins, and how many of its bytes come before.
-#[derive(Clone, Copy)]
-struct Address {
-    slot: usize,
-    start: u64,
-    offset: usize,
+/// What a slot has before it has a page: no units, and no frame.
+const NO_PAGE: Page = Page {
+    start: 0,
+    units: 0,
+    frame: u32::MAX,
+};
+
+/// The slot of the page that has a unit.
+#[inline(always)]
+fn slot_of(unit: u64) -> usize {
+    (unit / 128) as usize % SLOTS
 }
 
-impl Address {
-    #[inline(always)]
-    fn of(unit: u64) -> Address
-        ensures start { result.start ≤ unit }
-        ensures offset { result.offset ≡ 16 * (unit % 128) }
-    {
-        Address {
-            slot: (unit / 128) as usize % SLOTS,
-            start: unit - unit % 128,
-            offset: 16 * (unit % 128) as usize,
-        }
-    }
+/// How many bytes of its page come before a unit.
+#[inline(always)]
+fn offset_of(unit: u64) -> usize
+    ensures { result ≡ 16 * (unit % 128) }
+{
+    16 * (unit % 128) as usize
 }
 
 /// Which reads are answered from pages.
@@ -121,7 +120,7 @@ impl Trial {
 pub struct Pages {
     trial: Trial,
     // The page of each slot, once one is held.
-    slots: Vec<Option<Page>>,
+    slots: Vec<Page>,
     // The bytes of the pages: a frame for each slot that had one.
     frames: Vec<[u8; SIZE]>,
 }
@@ -167,51 +166,56 @@ impl Pages {
         }
     }
 
-    /// Fills `into` from an address on, where the page is held and has all of it, and tells whether it did.
+    /// Fills `into` from a unit on, where its page is held and has all of it, and tells whether it did.
     #[inline(always)]
-    fn copy_held(&self, address: Address, into: &mut [u8]) -> bool
-        requires { address.offset + length into.old ≤ 2048 }
+    fn copy_held(&self, unit: u64, into: &mut [u8]) -> bool
+        requires { 16 * (unit % 128) + length into.old ≤ 2048 }
     {
-        let end = address.offset + into.len();
-        match self.slots.get(address.slot) {
-            Some(Some(page)) if page.start == address.start && page.filled >= end => {
-                match self.frames.get(page.frame) {
-                    Some(bytes) => {
-                        into.copy_from_slice(&bytes[address.offset..end]);
-                        true
-                    }
-                    None => false,
-                }
-            }
-            _ => false,
+        let Some(page) = self.slots.get(slot_of(unit)) else {
+            return false;
+        };
+        let more = into.len().saturating_sub(1) / 16;
+        if unit.wrapping_sub(page.start) >= (page.units as u64).saturating_sub(more as u64) {
+            return false;
         }
+        let Some(bytes) = self.frames.get(page.frame as usize) else {
+            return false;
+        };
+        let offset = offset_of(unit);
+        into.copy_from_slice(&bytes[offset..offset + into.len()]);
+        true
     }
 
     /// Claims a frame for the page of a slot, and gives its number. A slot that had none gets a new one.
-    fn claim_frame(&mut self, slot: usize) -> Result<usize, AllocError> {
-        if let Some(Some(page)) = self.slots.get(slot) {
+    fn claim_frame(&mut self, slot: usize) -> Result<u32, AllocError> {
+        if let Some(page) = self.slots.get(slot)
+            && (page.frame as usize) < self.frames.len()
+        {
             return Ok(page.frame);
         }
-        self.slots.resize(SLOTS, None)?;
+        self.slots.resize(SLOTS, NO_PAGE)?;
         self.frames.push([0; SIZE])?;
-        Ok(self.frames.len() - 1)
+        // There are no more frames than slots.
+        Ok(((self.frames.len() - 1) % SLOTS) as u32)
     }
 
-    /// Loads the page of an address, which has no bytes where it can't be read.
-    fn load(&mut self, file: &fs::File, address: Address) -> Result<(), AllocError>
-        requires { address.start < 2 ^ 58 }
+    /// Loads the page of a unit, which has no units where it can't be read.
+    fn load(&mut self, file: &fs::File, unit: u64) -> Result<(), AllocError>
+        requires { unit < 2 ^ 58 }
     {
-        let frame = self.claim_frame(address.slot)?;
-        let filled = match self.frames.get_mut(frame) {
-            Some(bytes) => file.read_at(bytes, 16 * address.start).unwrap_or(0),
+        let slot = slot_of(unit);
+        let start = unit - unit % 128;
+        let frame = self.claim_frame(slot)?;
+        let filled = match self.frames.get_mut(frame as usize) {
+            Some(bytes) => file.read_at(bytes, 16 * start).unwrap_or(0),
             None => 0,
         };
-        if let Some(held) = self.slots.get_mut(address.slot) {
-            *held = Some(Page {
-                start: address.start,
-                filled: filled.min(SIZE),
+        if let Some(page) = self.slots.get_mut(slot) {
+            *page = Page {
+                start,
+                units: (filled.min(SIZE) / 16) as u32,
                 frame,
-            });
+            };
         }
         Ok(())
     }
@@ -225,7 +229,7 @@ impl Pages {
     /// Fills `into` with a unit whose page is held, and tells whether it did.
     #[inline(always)]
     pub fn read_held(&mut self, unit: u64, into: &mut [u8]) -> bool {
-        if into.len() != 16 || !self.copy_held(Address::of(unit), into) {
+        if into.len() != 16 || !self.copy_held(unit, into) {
             return false;
         }
         self.count(false);
@@ -237,12 +241,11 @@ impl Pages {
     pub fn read(&mut self, file: &fs::File, unit: u64, into: &mut [u8]) -> Result<(), Failed>
         requires { unit < 2 ^ 58 }
     {
-        let address = Address::of(unit);
-        if into.len() > SIZE - address.offset {
+        if into.len() > SIZE - offset_of(unit) {
             return fill(file, 16 * unit, into);
         }
-        let is_held = self.copy_held(address, into);
-        if is_held || (self.load(file, address).is_ok() && self.copy_held(address, into)) {
+        let is_held = self.copy_held(unit, into);
+        if is_held || (self.load(file, unit).is_ok() && self.copy_held(unit, into)) {
             self.count(!is_held);
             return Ok(());
         }

@@ -12,7 +12,8 @@ abbrev Laid : List Bool → List ℕ → ℕ → List ℕ → ℕ → List ℕ �
 Laid marks bytes at old k now = ((j : ℕ) → j < k → unit_in now j ≡ unwrap_or (in_marked marks bytes (at + j)) (unit_in old j))
     × ((j : ℕ) → k ≤ j → unit_in now j ≡ unit_in old j)
 
-module _ (marks : List Bool) (bytes : List ℕ) (at k : ℕ) (old now next : List ℕ) (done : (j : ℕ) → j < k → unit_in now j ≡ unwrap_or (in_marked marks bytes (at + j)) (unit_in old j))
+module _ (marks : List Bool) (bytes : List ℕ) (at k : ℕ) (old now next : List ℕ)
+    (done : (j : ℕ) → j < k → unit_in now j ≡ unwrap_or (in_marked marks bytes (at + j)) (unit_in old j))
     (rest : (j : ℕ) → k ≤ j → unit_in now j ≡ unit_in old j) where
   skipped : get_or marks (at + k) false ≡ false → next ≡ now → Laid marks bytes at old (k + 1) next
   skipped unheld is = (

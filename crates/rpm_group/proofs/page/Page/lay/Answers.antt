@@ -11,7 +11,8 @@ returns-in-None c = λ k below.
     let page = c.args.self.now in
     let at = c.args.at in
     let n = length c.args.into.now / 16 in
-    let held : is_marked page.marks (at + k) ≡ true = ap (λ m. is_marked m (at + k)) c.in-None.is ∙ lt-ltb (at + k) 256 (omega (arith, below, c.requires.within)) in
+    let held : is_marked page.marks (at + k) ≡ true =
+    ap (λ m. is_marked m (at + k)) c.in-None.is ∙ lt-ltb (at + k) 256 (omega (arith, below, c.requires.within)) in
     ap (λ (bs : List ℕ). unit_in bs k) c.copy_from_slice.ensures.after
     ∙ unit_in_part page.bytes at n (16 * (at + n) - 16 * at) k (omega arith) below
     ∙ ap (λ (o : Option (List ℕ)). unwrap_or o (unit_in c.args.into.now k))
