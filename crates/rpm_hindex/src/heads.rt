@@ -63,28 +63,22 @@ pub fn read_head<D: Disk>(disk: &mut D, extent: Extent, at: u32) -> Result<Ahead
     })
 }
 
-/// Whether a key is of this bucket, which is the bucket of another key.
-fn is_of_bucket(
-    kind: u8,
-    key: &[u8],
-    other_kind: u8,
-    other: &[u8],
-    buckets: u32,
-    bucket: u32,
-) -> bool
+/// Whether two kinds and two keys are the same.
+fn is_key(kind: u8, key: &[u8], other_kind: u8, other: &[u8]) -> bool
+    ensures same { (number place : ℕ) → result ≡ has_key kind key.now (record { kind = other_kind; key = other.now; number = number; place = place }) }
+    ensures hash { result ≡ true → hash_of other_kind other.now ≡ hash_of kind key.now }
+{
+    kind == other_kind && key == other
+}
+
+/// Whether a key is of this bucket, which is known where it is the key that is looked for.
+fn is_of_bucket(kind: u8, key: &[u8], buckets: u32, bucket: u32, is_wanted: bool) -> bool
     requires some { 0 < buckets }
-    requires bucket { hash_of other_kind other.now % buckets ≡ bucket }
+    requires wanted { is_wanted ≡ true → hash_of kind key.now % buckets ≡ bucket }
     ensures yes { result ≡ true → hash_of kind key.now % buckets ≡ bucket }
     ensures no { result ≡ false → hash_of kind key.now % buckets ≡ bucket → ⊥ }
 {
-    key == other && kind == other_kind || bucket_of(kind, key, buckets) == bucket
-}
-
-/// Whether two kinds and two keys are the same.
-fn is_key(kind: u8, key: &[u8], other_kind: u8, other: &[u8]) -> bool
-    ensures { (number place : ℕ) → result ≡ has_key kind key.now (record { kind = other_kind; key = other.now; number = number; place = place }) }
-{
-    kind == other_kind && key == other
+    is_wanted || bucket_of(kind, key, buckets) == bucket
 }
 
 /// Reads the key of a record, whose first unit was read, into a buffer: whether it is this kind's key, which is of
@@ -116,12 +110,13 @@ pub fn meets_key<D: Disk>(
     read_key_into(disk, head.at as u64 + 1, length, buffer)?;
     let found_kind = (head.size / 268_435_456) as u8;
     let found = &buffer[..length as usize];
-    if !is_of_bucket(found_kind, found, kind, key, extent.buckets, bucket) {
+    let is_wanted = is_key(kind, key, found_kind, found);
+    if !is_of_bucket(found_kind, found, extent.buckets, bucket, is_wanted) {
         return Err(FindFault::BadIndex {
             unit: head.at as u64,
         });
     }
-    Ok(is_key(kind, key, found_kind, found))
+    Ok(is_wanted)
 }
 
 /// Whether a record has the number and place that are looked for, where only one is.

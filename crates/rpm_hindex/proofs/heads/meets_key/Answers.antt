@@ -55,7 +55,7 @@ returns-clause-same g c = λ told.
     (ap (take (c.args.head.size % 268435456)) c.deref.ensures.value ∙ c.in_ok-read_key_into.ensures.bytes told) in
     let number : ℕ = word 2 (x.unit at) in
     let place : ℕ = word 3 (x.unit at) in
-    c.is_key.ensures number place ∙ ap (has_key c.args.kind c.args.key.now) (sym (row_read x.unit at c.args.head.size number place found size key refl refl))
+    c.is_key-is_wanted.ensures.same number place ∙ ap (has_key c.args.kind c.args.key.now) (sym (row_read x.unit at c.args.head.size number place found size key refl refl))
 
 pub returns-clause-long : goal.returns-clause-long
 returns-clause-long g c = λ told.
