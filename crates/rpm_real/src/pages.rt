@@ -199,25 +199,33 @@ impl Pages {
         Ok(((self.frames.len() - 1) % SLOTS) as u32)
     }
 
-    /// Loads the page of a unit, which has no units where it can't be read.
-    fn load(&mut self, file: &fs::File, unit: u64) -> Result<(), AllocError>
-        requires { unit < 2 ^ 58 }
+    /// Loads the page of a unit, which has no units where it can't be read. Fills `into` from the unit on, where the page
+    /// has all of it, and tells whether it did.
+    fn load(&mut self, file: &fs::File, unit: u64, into: &mut [u8]) -> Result<bool, AllocError>
+        requires within { 16 * (unit % 128) + length into.old ≤ 2048 }
+        requires place { unit < 2 ^ 58 }
     {
         let slot = slot_of(unit);
-        let start = unit - unit % 128;
         let frame = self.claim_frame(slot)?;
-        let filled = match self.frames.get_mut(frame as usize) {
-            Some(bytes) => file.read_at(bytes, 16 * start).unwrap_or(0),
-            None => 0,
+        let (Some(page), Some(bytes)) = (
+            self.slots.get_mut(slot),
+            self.frames.get_mut(frame as usize),
+        ) else {
+            return Ok(false);
         };
-        if let Some(page) = self.slots.get_mut(slot) {
-            *page = Page {
-                start,
-                units: (filled.min(SIZE) / 16) as u32,
-                frame,
-            };
+        let start = unit - unit % 128;
+        let filled = file.read_at(bytes, 16 * start).unwrap_or(0).min(SIZE);
+        *page = Page {
+            start,
+            units: (filled / 16) as u32,
+            frame,
+        };
+        let offset = offset_of(unit);
+        if offset + into.len() > filled {
+            return Ok(false);
         }
-        Ok(())
+        into.copy_from_slice(&bytes[offset..offset + into.len()]);
+        Ok(true)
     }
 
     /// Lets a read pass without pages, while some still have to, and tells whether it did.
@@ -236,7 +244,8 @@ impl Pages {
         true
     }
 
-    /// Fills `into` from a unit on, by its page, which is loaded where it isn't held, or else by a read of the file.
+    /// Fills `into` from a unit on, by its page, which is loaded where it isn't held, or else by a read of the file. Of a
+    /// single unit `read_held` has seen already that its page isn't held.
     #[inline(never)]
     pub fn read(&mut self, file: &fs::File, unit: u64, into: &mut [u8]) -> Result<(), Failed>
         requires { unit < 2 ^ 58 }
@@ -244,9 +253,12 @@ impl Pages {
         if into.len() > SIZE - offset_of(unit) {
             return fill(file, 16 * unit, into);
         }
-        let is_held = self.copy_held(unit, into);
-        if is_held || (self.load(file, unit).is_ok() && self.copy_held(unit, into)) {
-            self.count(!is_held);
+        if into.len() != 16 && self.copy_held(unit, into) {
+            self.count(false);
+            return Ok(());
+        }
+        if let Ok(true) = self.load(file, unit, into) {
+            self.count(true);
             return Ok(());
         }
         fill(file, 16 * unit, into)
