@@ -186,13 +186,19 @@ impl Pages {
         true
     }
 
-    /// Claims a frame for the page of a slot, and gives its number. A slot that had none gets a new one.
-    fn claim_frame(&mut self, slot: usize) -> Result<u32, AllocError> {
-        if let Some(page) = self.slots.get(slot)
-            && (page.frame as usize) < self.frames.len()
-        {
-            return Ok(page.frame);
+    /// The frame for the page of a slot. A slot that had none gets a new one.
+    #[inline(always)]
+    fn frame_for(&mut self, slot: usize) -> Result<u32, AllocError> {
+        match self.slots.get(slot) {
+            Some(page) if page.frame != NO_PAGE.frame => Ok(page.frame),
+            _ => self.add_frame(),
         }
+    }
+
+    /// Adds a frame, and gives its number.
+    #[cold]
+    #[inline(never)]
+    fn add_frame(&mut self) -> Result<u32, AllocError> {
         self.slots.resize(SLOTS, NO_PAGE)?;
         self.frames.push([0; SIZE])?;
         // There are no more frames than slots.
@@ -201,12 +207,13 @@ impl Pages {
 
     /// Loads the page of a unit, which has no units where it can't be read. Fills `into` from the unit on, where the page
     /// has all of it, and tells whether it did.
+    #[inline(always)]
     fn load(&mut self, file: &fs::File, unit: u64, into: &mut [u8]) -> Result<bool, AllocError>
         requires within { 16 * (unit % 128) + length into.old ≤ 2048 }
         requires place { unit < 2 ^ 58 }
     {
         let slot = slot_of(unit);
-        let frame = self.claim_frame(slot)?;
+        let frame = self.frame_for(slot)?;
         let (Some(page), Some(bytes)) = (
             self.slots.get_mut(slot),
             self.frames.get_mut(frame as usize),
