@@ -186,53 +186,51 @@ impl Pages {
         true
     }
 
-    /// The frame for the page of a slot. A slot that had none gets a new one.
+    /// Loads the page of a unit into the frame of its slot; it has no units where it can't be read. Fills `into` from the
+    /// unit on, where the page has all of it, and tells whether it did: nothing where the slot has no frame.
     #[inline(always)]
-    fn frame_for(&mut self, slot: usize) -> Result<u32, AllocError> {
-        match self.slots.get(slot) {
-            Some(page) if page.frame != NO_PAGE.frame => Ok(page.frame),
-            _ => self.add_frame(),
-        }
-    }
-
-    /// Adds a frame, and gives its number.
-    #[cold]
-    #[inline(never)]
-    fn add_frame(&mut self) -> Result<u32, AllocError> {
-        self.slots.resize(SLOTS, NO_PAGE)?;
-        self.frames.push([0; SIZE])?;
-        // There are no more frames than slots.
-        Ok(((self.frames.len() - 1) % SLOTS) as u32)
-    }
-
-    /// Loads the page of a unit, which has no units where it can't be read. Fills `into` from the unit on, where the page
-    /// has all of it, and tells whether it did.
-    #[inline(always)]
-    fn load(&mut self, file: &fs::File, unit: u64, into: &mut [u8]) -> Result<bool, AllocError>
+    fn load(&mut self, file: &fs::File, unit: u64, into: &mut [u8]) -> Option<bool>
         requires within { 16 * (unit % 128) + length into.old ≤ 2048 }
         requires place { unit < 2 ^ 58 }
     {
-        let slot = slot_of(unit);
-        let frame = self.frame_for(slot)?;
-        let (Some(page), Some(bytes)) = (
-            self.slots.get_mut(slot),
-            self.frames.get_mut(frame as usize),
-        ) else {
-            return Ok(false);
+        let Some(page) = self.slots.get_mut(slot_of(unit)) else {
+            return None;
+        };
+        let Some(bytes) = self.frames.get_mut(page.frame as usize) else {
+            return None;
         };
         let start = unit - unit % 128;
         let filled = file.read_at(bytes, 16 * start).unwrap_or(0).min(SIZE);
-        *page = Page {
-            start,
-            units: (filled / 16) as u32,
-            frame,
-        };
+        page.start = start;
+        page.units = (filled / 16) as u32;
         let offset = offset_of(unit);
         if offset + into.len() > filled {
-            return Ok(false);
+            return Some(false);
         }
         into.copy_from_slice(&bytes[offset..offset + into.len()]);
-        Ok(true)
+        Some(true)
+    }
+
+    /// Gives a slot a new frame.
+    fn add_frame(&mut self, slot: usize) -> Result<(), AllocError> {
+        self.slots.resize(SLOTS, NO_PAGE)?;
+        self.frames.push([0; SIZE])?;
+        // There are no more frames than slots.
+        let frame = ((self.frames.len() - 1) % SLOTS) as u32;
+        if let Some(page) = self.slots.get_mut(slot) {
+            page.frame = frame;
+        }
+        Ok(())
+    }
+
+    /// Loads the page of a unit whose slot has no frame, as `load` does, and tells whether it filled `into`.
+    #[cold]
+    #[inline(never)]
+    fn load_first(&mut self, file: &fs::File, unit: u64, into: &mut [u8]) -> bool
+        requires within { 16 * (unit % 128) + length into.old ≤ 2048 }
+        requires place { unit < 2 ^ 58 }
+    {
+        self.add_frame(slot_of(unit)).is_ok() && self.load(file, unit, into).unwrap_or(false)
     }
 
     /// Lets a read pass without pages, while some still have to, and tells whether it did.
@@ -264,7 +262,11 @@ impl Pages {
             self.count(false);
             return Ok(());
         }
-        if let Ok(true) = self.load(file, unit, into) {
+        let is_loaded = match self.load(file, unit, into) {
+            Some(is_loaded) => is_loaded,
+            None => self.load_first(file, unit, into),
+        };
+        if is_loaded {
             self.count(true);
             return Ok(());
         }

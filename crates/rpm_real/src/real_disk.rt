@@ -104,6 +104,19 @@ impl<'a, R: Files<File = fs::File> + Clock> RealDisk<'a, R> {
         };
         counted(&mut self.faults, answer)
     }
+
+    /// Reads units of the index where nothing is to be done before a read, as `read_in` does then.
+    #[inline(never)]
+    fn read_index(&mut self, unit: u64, into: &mut [u8]) -> Result<(), Failed>
+        ensures reads { (f : File) → RoseBy (count_of_file self.old.pkg.read self.old.idx.read self.old.log.read f)
+            (bytes_for File.Idx f (length into.old)) (count_of_file self.new.pkg.read self.new.idx.read self.new.log.read f) }
+        ensures moment { self.new.moment ≡ self.old.moment }
+        ensures cause { HasCause self.old.faults self.new.faults result }
+        ensures once { FaultCount (is_err result) self.old.faults self.new.faults }
+    {
+        let answer = self.idx.read_at(self.rt, Ok(()), unit, into);
+        counted(&mut self.faults, answer)
+    }
 }
 
 /// Counts a failure.
@@ -155,8 +168,11 @@ impl<'a, R: Files<File = fs::File> + Clock> Disk for RealDisk<'a, R> {
     }
 
     fn read_at(&mut self, file: File, unit: u64, into: &mut [u8]) -> Result<(), Failed> {
-        if file == File::Idx && self.door.is_settled() && self.idx.read_held(unit, into) {
-            return Ok(());
+        if file == File::Idx && self.door.is_settled() {
+            if self.idx.read_held(unit, into) {
+                return Ok(());
+            }
+            return self.read_index(unit, into);
         }
         self.read_in(file, unit, into)
     }
